@@ -1,0 +1,247 @@
+-- Laws of one byte cycle, and of sums and differences of any number of bytes: each proved once, over the number of bytes.
+-- Assumes nothing.
+use Prim.Native.Nat.{ℕ, suc, _+_, _-_, _*_, _^_, _%_, _<_, _≤_}
+use mathlib.Core.Path.{_≡_, refl, ap, ap₂, _∙_, sym}
+use mathlib.Core.Bool.{Bool, true, false, not, _||_}
+use mathlib.Core.List.{List, [], _∷_}
+use native.Mathlib.Omega.{arith}
+use native.Mathlib.Nat.{add-zero, pow-succ', mul-assoc}
+use lib.Dec.{ltb, leb}
+use lib.ListN.{length}
+use borrow.Author.Tests.{leb-true, leb-false, ltb-true, ltb-false, lt-ltb, le-ltb, le-leb, lt-leb}
+use Rattle.alu.specs.Cycle.{addOf, subtractOf, bit, biased, choice, sumOutside}
+use Rattle.alu.specs.Numbers.{value, Bytes, sumBytes, carryOut, lastV, ones, half, differenceOutside}
+
+-- ---- one byte
+
+pub bit-le : (t : Bool) → bit t ≤ 1
+bit-le true = omega arith
+bit-le false = omega arith
+
+not-bit : (t : Bool) → bit (not t) + bit t ≡ 1
+not-bit true = refl
+not-bit false = refl
+
+bit-not : (s t : Bool) → bit s + bit t ≡ 1 → s ≡ not t
+bit-not true true e = absurd (omega arith)
+bit-not true false e = refl
+bit-not false true e = refl
+bit-not false false e = absurd (omega arith)
+
+-- a byte with 128 added, as the code works it out
+pub biased-byte : (p : ℕ) → p < 256 → (p + 128) % 256 ≡ biased 128 p
+biased-byte p h = go (ltb p 128) refl
+  where
+    go : (t : Bool) → ltb p 128 ≡ t → (p + 128) % 256 ≡ choice t (p + 128) (p - 128)
+    go true e = omega (arith, ltb-true p 128 e)
+    go false e = omega (arith, ltb-false p 128 e)
+
+pub result-byte : (p q : ℕ) (c : Bool) → addOf p q c .result < 256
+unfolding addOf
+result-byte p q c = omega arith
+
+-- result and carry together are the sum
+pub byte-sum : (p q : ℕ) (c : Bool) → p < 256 → q < 256 → addOf p q c .result + 256 * bit (addOf p q c .c8) ≡ p + q + bit c
+unfolding addOf
+byte-sum p q c hp hq = go (leb 256 (p + q + bit c)) refl
+  where
+    go : (t : Bool) → leb 256 (p + q + bit c) ≡ t → (p + q + bit c) % 256 + 256 * bit t ≡ p + q + bit c
+    go true e = omega (arith, leb-true 256 (p + q + bit c) e, bit-le c)
+    go false e = omega (arith, leb-false 256 (p + q + bit c) e)
+
+-- ---- any number of bytes
+
+pub sum-bytes : (ps qs : List ℕ) (c : Bool) → Bytes (sumBytes ps qs c)
+sum-bytes [] qs c = tt
+sum-bytes (p ∷ ps) [] c = tt
+sum-bytes (p ∷ ps) (q ∷ qs) c = (result-byte p q c, sum-bytes ps qs (addOf p q c .c8))
+
+pub sum-length : (ps qs : List ℕ) (c : Bool) → length ps ≡ length qs → length (sumBytes ps qs c) ≡ length ps
+sum-length [] qs c e = refl
+sum-length (p ∷ ps) [] c e = absurd (omega arith)
+sum-length (p ∷ ps) (q ∷ qs) c e = ap suc (sum-length ps qs (addOf p q c .c8) (omega arith))
+
+pub value-below : (xs : List ℕ) → Bytes xs → value xs < 256 ^ length xs
+value-below [] b = omega arith
+value-below (x ∷ xs) b = let ih = value-below xs (b .1) in rw (pow-succ' 256 (length xs)) (omega arith)
+
+-- the bytes of a sum and its carry together are the sum
+pub sum-law : (ps qs : List ℕ) (c : Bool) → Bytes ps → Bytes qs → length ps ≡ length qs
+    → value (sumBytes ps qs c) + 256 ^ length ps * bit (carryOut ps qs c) ≡ value ps + value qs + bit c
+sum-law [] [] c bp bq e = omega arith
+sum-law [] (q ∷ qs) c bp bq e = omega arith
+sum-law (p ∷ ps) [] c bp bq e = omega arith
+sum-law (p ∷ ps) (q ∷ qs) c bp bq e =
+    let ih = sum-law ps qs (addOf p q c .c8) (bp .1) (bq .1) (omega arith) in
+    let s = byte-sum p q c (bp .0) (bq .0) in
+    rw (pow-succ' 256 (length ps), mul-assoc 256) (omega arith)
+
+ones-value : (qs : List ℕ) → Bytes qs → value (ones qs) + value qs + 1 ≡ 256 ^ length qs
+ones-value [] b = refl
+ones-value (q ∷ qs) b = let ih = ones-value qs (b .1) in rw (pow-succ' 256 (length qs)) (omega arith)
+
+pub ones-bytes : (qs : List ℕ) → Bytes qs → Bytes (ones qs)
+ones-bytes [] b = tt
+ones-bytes (q ∷ qs) b = (omega arith, ones-bytes qs (b .1))
+
+pub ones-length : (qs : List ℕ) → length (ones qs) ≡ length qs
+ones-length [] = refl
+ones-length (q ∷ qs) = ap suc (ones-length qs)
+
+-- a difference: its bytes, what was taken and the borrow in are what there was, and 256 ^ n more where the carry is 0
+pub difference-law : (ps qs : List ℕ) (b : Bool) → Bytes ps → Bytes qs → length ps ≡ length qs
+    → value (sumBytes ps (ones qs) (not b)) + 256 ^ length ps * bit (carryOut ps (ones qs) (not b)) + value qs + bit b ≡ value ps + 256 ^ length ps
+difference-law ps qs b bp bq e =
+    let s = sum-law ps (ones qs) (not b) bp (ones-bytes qs bq) (e ∙ sym (ones-length qs)) in
+    let o = ones-value qs bq in
+    let w : 256 ^ length ps ≡ 256 ^ length qs = ap (λ (n : ℕ). 256 ^ n) e in
+    omega (arith, not-bit b)
+
+-- ---- the carry and the borrow
+
+-- with r below w, the digit above r in r + w * bit t tells t
+from-digit : (r w s : ℕ) (t : Bool) → r < w → r + w * bit t ≡ s → t ≡ leb w s
+from-digit r w s true h e = sym (le-leb w s (omega arith))
+from-digit r w s false h e = sym (lt-leb w s (omega arith))
+
+-- the carry out says that the sum has no room in n bytes
+pub carry-law : (ps qs : List ℕ) (c : Bool) → Bytes ps → Bytes qs → length ps ≡ length qs
+    → carryOut ps qs c ≡ leb (256 ^ length ps) (value ps + value qs + bit c)
+carry-law ps qs c bp bq e =
+    let below = rw (sum-length ps qs c e) at (value-below (sumBytes ps qs c) (sum-bytes ps qs c)) in
+    from-digit (value (sumBytes ps qs c)) (256 ^ length ps) (value ps + value qs + bit c) (carryOut ps qs c) below (sum-law ps qs c bp bq e)
+
+-- the borrow, the complement of the carry, says that more was taken than there was
+pub borrow-law : (ps qs : List ℕ) (b : Bool) → Bytes ps → Bytes qs → length ps ≡ length qs
+    → not (carryOut ps (ones qs) (not b)) ≡ ltb (value ps) (value qs + bit b)
+borrow-law ps qs b bp bq e = go (carryOut ps (ones qs) (not b)) (difference-law ps qs b bp bq e) below
+  where
+    below : value (sumBytes ps (ones qs) (not b)) < 256 ^ length ps
+    below =
+        rw (sum-length ps (ones qs) (not b) (e ∙ sym (ones-length qs))) at
+        (value-below (sumBytes ps (ones qs) (not b)) (sum-bytes ps (ones qs) (not b)))
+
+    go : (t : Bool) → value (sumBytes ps (ones qs) (not b)) + 256 ^ length ps * bit t + value qs + bit b ≡ value ps + 256 ^ length ps
+        → value (sumBytes ps (ones qs) (not b)) < 256 ^ length ps → not t ≡ ltb (value ps) (value qs + bit b)
+    go true d l = sym (le-ltb (value ps) (value qs + bit b) (omega arith))
+    go false d l = sym (lt-ltb (value ps) (value qs + bit b) (omega arith))
+
+-- ---- back again
+
+digits-back : (p r k j : ℕ) → p < 256 → r < 256 → r + 256 * k + 256 * j ≡ p + 256 → (r ≡ p) × (k + j ≡ 1)
+digits-back p r k j hp hr e = omega arith
+
+-- one byte: the sum less what was added is what there was, and the borrow is the sum's carry
+byte-back : (p q : ℕ) (c : Bool) → p < 256 → q < 256
+    → (addOf (addOf p q c .result) (255 - q) (not c) .result ≡ p) × (addOf (addOf p q c .result) (255 - q) (not c) .c8 ≡ not (addOf p q c .c8))
+byte-back p q c hp hq =
+    let x = addOf p q c in
+    let h = byte-sum p q c hp hq in
+    let k = byte-sum (x .result) (255 - q) (not c) (result-byte p q c) (omega arith) in
+    let y = addOf (x .result) (255 - q) (not c) in
+    let d = digits-back p (y .result) (bit (y .c8)) (bit (x .c8)) hp (result-byte (x .result) (255 - q) (not c)) (omega (arith, not-bit c)) in
+    (d .0, bit-not (y .c8) (x .c8) (d .1))
+
+-- subtracting after adding gives the bytes back
+pub back : (ps qs : List ℕ) (c : Bool) → Bytes ps → Bytes qs → length ps ≡ length qs → sumBytes (sumBytes ps qs c) (ones qs) (not c) ≡ ps
+back [] [] c bp bq e = refl
+back [] (q ∷ qs) c bp bq e = refl
+back (p ∷ ps) [] c bp bq e = absurd (omega arith)
+back (p ∷ ps) (q ∷ qs) c bp bq e =
+    let ih = back ps qs (addOf p q c .c8) (bp .1) (bq .1) (omega arith) in
+    let b = byte-back p q c (bp .0) (bq .0) in
+    ap₂ _∷_ (b .0) (rw (b .1) ih)
+
+-- ---- V of the last cycle is about the whole number
+
+-- a low digit below 256 moves no test at a multiple of 256
+digit-below : (r t k : ℕ) → r < 256 → ltb t k ≡ ltb (r + 256 * t) (256 * k)
+digit-below r t k h = go (ltb t k) refl
+  where
+    go : (b : Bool) → ltb t k ≡ b → b ≡ ltb (r + 256 * t) (256 * k)
+    go true e = sym (lt-ltb (r + 256 * t) (256 * k) (omega (arith, ltb-true t k e)))
+    go false e = sym (le-ltb (r + 256 * t) (256 * k) (omega (arith, ltb-false t k e)))
+
+digit-from : (r t k : ℕ) → r < 256 → leb k t ≡ leb (256 * k) (r + 256 * t)
+digit-from r t k h = go (leb k t) refl
+  where
+    go : (b : Bool) → leb k t ≡ b → b ≡ leb (256 * k) (r + 256 * t)
+    go true e = sym (le-leb (256 * k) (r + 256 * t) (omega (arith, leb-true k t e)))
+    go false e = sym (lt-leb (256 * k) (r + 256 * t) (omega (arith, leb-false k t e)))
+
+-- nor the signed number's sign
+biased-digit : (h x p : ℕ) → p < 256 → biased (256 * h) (p + 256 * x) ≡ p + 256 * biased h x
+biased-digit h x p l = ap (λ (t : Bool). choice t (p + 256 * x + 256 * h) (p + 256 * x - 256 * h)) (sym (digit-below p x h l)) ∙ go (ltb x h) refl
+  where
+    go : (t : Bool) → ltb x h ≡ t → choice t (p + 256 * x + 256 * h) (p + 256 * x - 256 * h) ≡ p + 256 * choice t (x + h) (x - h)
+    go true e = omega arith
+    go false e = omega (arith, ltb-false x h e)
+
+outside-digit : (h x y p q r : ℕ) (c k : Bool) → p < 256 → q < 256 → r < 256 → r + 256 * bit k ≡ p + q + bit c
+    → sumOutside h x y k ≡ sumOutside (256 * h) (p + 256 * x) (q + 256 * y) c
+outside-digit h x y p q r c k hp hq hr e =
+    let t = biased h x + biased h y + bit k in
+    let s = biased (256 * h) (p + 256 * x) + biased (256 * h) (q + 256 * y) + bit c in
+    let whole : r + 256 * t ≡ s = omega (arith, biased-digit h x p hp, biased-digit h y q hq) in
+    let third : 256 * (3 * h) ≡ 3 * (256 * h) = omega arith in
+    ap₂ _||_ (digit-below r t h hr ∙ ap (λ (n : ℕ). ltb n (256 * h)) whole) (digit-from r t (3 * h) hr ∙ ap₂ leb third whole)
+
+half-step : (n : ℕ) → half (suc n) ≡ 256 * half n
+half-step n = rw (pow-succ' 256 n) (omega arith)
+
+v-byte : (p q : ℕ) (c : Bool) → addOf p q c .v ≡ sumOutside (half 0) (value (p ∷ [])) (value (q ∷ [])) c
+unfolding addOf
+v-byte p q c = simp add-zero
+
+-- V of the last of n + 1 cycles says that the signed sum of the whole numbers does not fit
+pub v-law : (p q : ℕ) (ps qs : List ℕ) (c v : Bool) → Bytes (p ∷ ps) → Bytes (q ∷ qs) → length ps ≡ length qs
+    → lastV (p ∷ ps) (q ∷ qs) c v ≡ sumOutside (half (length ps)) (value (p ∷ ps)) (value (q ∷ qs)) c
+v-law p q [] [] c v bp bq e = v-byte p q c
+v-law p q [] (y ∷ qs) c v bp bq e = absurd (omega arith)
+v-law p q (x ∷ ps) [] c v bp bq e = absurd (omega arith)
+v-law p q (x ∷ ps) (y ∷ qs) c v bp bq e =
+    v-law x y ps qs (addOf p q c .c8) (addOf p q c .v) (bp .1) (bq .1) (omega arith)
+    ∙ outside-digit (half (length ps)) (value (x ∷ ps)) (value (y ∷ qs)) p q (addOf p q c .result) c (addOf p q c .c8) (bp .0) (bq .0) (result-byte p q c) (byte-sum p q c (bp .0) (bq .0))
+    ∙ ap (λ (h : ℕ). sumOutside h (value (p ∷ x ∷ ps)) (value (q ∷ y ∷ qs)) c) (sym (half-step (length ps)))
+
+-- the signed number of 255 - q for each byte, and that of the bytes, make one less than the range
+biased-ones : (h y z : ℕ) → z + y + 1 ≡ 2 * h → biased h z + biased h y + 1 ≡ 2 * h
+biased-ones h y z e = go (ltb z h) refl (ltb y h) refl
+  where
+    go : (s : Bool) → ltb z h ≡ s → (t : Bool) → ltb y h ≡ t → choice s (z + h) (z - h) + choice t (y + h) (y - h) + 1 ≡ 2 * h
+    go true a true b = omega (arith, ltb-true z h a, ltb-true y h b)
+    go true a false b = omega (arith, ltb-true z h a, ltb-false y h b)
+    go false a true b = omega (arith, ltb-false z h a, ltb-true y h b)
+    go false a false b = omega (arith, ltb-false z h a, ltb-false y h b)
+
+-- tests that say the same of their numbers are equal
+same-below : (a b i j : ℕ) → (a < b → i < j) → (b ≤ a → j ≤ i) → ltb a b ≡ ltb i j
+same-below a b i j f g = go (ltb a b) refl
+  where
+    go : (t : Bool) → ltb a b ≡ t → t ≡ ltb i j
+    go true e = sym (lt-ltb i j (f (ltb-true a b e)))
+    go false e = sym (le-ltb i j (g (ltb-false a b e)))
+
+same-from : (a b i j : ℕ) → (a ≤ b → i ≤ j) → (b < a → j < i) → leb a b ≡ leb i j
+same-from a b i j f g = go (leb a b) refl
+  where
+    go : (t : Bool) → leb a b ≡ t → t ≡ leb i j
+    go true e = sym (le-leb i j (f (leb-true a b e)))
+    go false e = sym (lt-leb i j (g (leb-false a b e)))
+
+outside-ones : (h x y z : ℕ) (b : Bool) → z + y + 1 ≡ 2 * h → sumOutside h x z (not b) ≡ differenceOutside h x y b
+outside-ones h x y z b e =
+    let o = biased-ones h y z e in
+    let n = not-bit b in
+    ap₂ _||_
+    (same-below (biased h x + biased h z + bit (not b)) h (biased h x + h) (biased h y + bit b) (λ l. omega arith) (λ l. omega arith))
+    (same-from (3 * h) (biased h x + biased h z + bit (not b)) (biased h y + bit b + h) (biased h x) (λ l. omega arith) (λ l. omega arith))
+
+-- the same of a difference
+pub v-difference-law : (p q : ℕ) (ps qs : List ℕ) (b v : Bool) → Bytes (p ∷ ps) → Bytes (q ∷ qs) → length ps ≡ length qs
+    → lastV (p ∷ ps) (ones (q ∷ qs)) (not b) v ≡ differenceOutside (half (length ps)) (value (p ∷ ps)) (value (q ∷ qs)) b
+v-difference-law p q ps qs b v bp bq e =
+    let o : value (ones (q ∷ qs)) + value (q ∷ qs) + 1 ≡ 2 * half (length ps)
+    = ones-value (q ∷ qs) bq ∙ pow-succ' 256 (length qs) ∙ ap (λ (n : ℕ). 256 * 256 ^ n) (sym e) ∙ omega arith in
+    v-law p (255 - q) ps (ones qs) (not b) v bp (ones-bytes (q ∷ qs) bq) (e ∙ sym (ones-length qs))
+    ∙ outside-ones (half (length ps)) (value (p ∷ ps)) (value (q ∷ qs)) (value (ones (q ∷ qs))) b o

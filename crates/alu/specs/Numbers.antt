@@ -1,0 +1,45 @@
+-- Numbers of n bytes, low end first, and their sums and differences, a byte cycle for each byte.
+use Prim.Native.Nat.{ℕ, _+_, _-_, _*_, _^_, _<_, suc, zero}
+use mathlib.Core.Bool.{Bool, true, false, not, _||_}
+use mathlib.Core.List.{List, [], _∷_}
+use lib.Dec.{ltb, leb}
+use lib.ListN.{length}
+use Rattle.alu.specs.Cycle.{addOf, bit, biased}
+
+-- the number that bytes stand for
+abbrev pub value : List ℕ → ℕ
+value [] = 0
+value (x ∷ xs) = x + 256 * value xs
+
+abbrev pub Bytes : List ℕ → Type 0
+Bytes [] = Unit {0}
+Bytes (x ∷ xs) = (x < 256) × Bytes xs
+
+-- the bytes of a sum, the carry out of its last cycle, and V of its last cycle
+abbrev pub sumBytes : List ℕ → List ℕ → Bool → List ℕ
+sumBytes [] qs c = []
+sumBytes (p ∷ ps) [] c = []
+sumBytes (p ∷ ps) (q ∷ qs) c = addOf p q c .result ∷ sumBytes ps qs (addOf p q c .c8)
+
+abbrev pub carryOut : List ℕ → List ℕ → Bool → Bool
+carryOut [] qs c = c
+carryOut (p ∷ ps) [] c = c
+carryOut (p ∷ ps) (q ∷ qs) c = carryOut ps qs (addOf p q c .c8)
+
+abbrev pub lastV : List ℕ → List ℕ → Bool → Bool → Bool
+lastV [] qs c v = v
+lastV (p ∷ ps) [] c v = v
+lastV (p ∷ ps) (q ∷ qs) c v = lastV ps qs (addOf p q c .c8) (addOf p q c .v)
+
+-- 255 - q of each byte: a difference adds these
+abbrev pub ones : List ℕ → List ℕ
+ones [] = []
+ones (q ∷ qs) = (255 - q) ∷ ones qs
+
+-- half the range of a signed number of n + 1 bytes
+abbrev pub half : ℕ → ℕ
+half n = 128 * 256 ^ n
+
+-- the signed difference of x, y and a borrow is outside -h to h - 1, each number with h added
+abbrev pub differenceOutside : ℕ → ℕ → ℕ → Bool → Bool
+differenceOutside h x y b = ltb (biased h x + h) (biased h y + bit b) || leb (biased h y + bit b + h) (biased h x)

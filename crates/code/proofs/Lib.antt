@@ -1,0 +1,5 @@
+pub mod Digits
+pub mod Shape
+pub mod Tops
+pub mod Words
+pub mod Laws

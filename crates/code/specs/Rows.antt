@@ -1,0 +1,177 @@
+-- The row of each top byte, by ranges: manual 5.2 and 5.3.2 as 01 corrects them (B6/B7 are CW, BC-BF DB1 and DW1).
+use Prim.Native.Nat.{ℕ, _+_, _*_, _/_, _%_}
+use mathlib.Core.Bool.{Bool, true, false}
+use mathlib.Core.List.{List, [], _∷_}
+use lib.Dec.{eqb}
+use Rattle.choose.specs.Ranged.{pick, ranged}
+use Rattle.choose.specs.Below.{firsts}
+use Rattle.code.specs.declared.Class.{Class}
+use Rattle.code.specs.declared.Row.{Row}
+
+-- manual 5.2's four formats; 01: "unlisted are 78-7F, AD, D4-D7 and E8-EB, 17 in all". Each range is named by its end
+abbrev pub classes : List (ℕ × Class)
+classes =
+    (0x10, Class.Jump) ∷
+    (0x20, Class.Conditional) ∷
+    (0x70, Class.Literal) ∷
+    (0x78, Class.Register) ∷
+    (0x80, Class.Unlisted) ∷
+    (0xAD, Class.Register) ∷
+    (0xAE, Class.Unlisted) ∷
+    (0xD4, Class.Register) ∷
+    (0xD8, Class.Unlisted) ∷
+    (0xE8, Class.Register) ∷
+    (0xEC, Class.Unlisted) ∷
+    (0x100, Class.Register) ∷
+    []
+
+unfoldable pub classOf : ℕ → Class
+classOf top = ranged top classes Class.Unlisted
+
+abbrev pub listed : Class → Bool
+listed Class.Unlisted = false
+listed Class.Jump = true
+listed Class.Conditional = true
+listed Class.Literal = true
+listed Class.Register = true
+
+-- 1 for the word codes among the register codes 80-F7: bit 1 of the top byte
+abbrev pub wordBit : ℕ → ℕ
+wordBit top = top / 2 % 2
+
+-- 5.2: jumps take two cycles, literals one; "If the designators apply to a word data quantum, the instruction takes two cycles"
+unfoldable pub cyclesOf : ℕ → ℕ
+cyclesOf top =
+    ranged top
+    ((0x20, 2) ∷  -- jumps
+    (0x80, 1) ∷  -- literals, 70-77
+    (0xF8, 1 + wordBit top) ∷
+    [])
+    1
+
+-- 3: a and b have to be even, "for the two-cycle codes 82-DF"; 1: "a alone for IW and ISW"
+unfoldable pub pairsOf : ℕ → ℕ
+pairsOf top = ranged top ((0x80, 0) ∷ (0xE0, 3 * wordBit top) ∷ (0xE8, wordBit top) ∷ []) 0
+
+-- 1: "R, W, RA, WA and the F0-F7 codes wait if REPLY or BUSY is high"; 2: "IB, IW, OB, OW wait if REPLY is low"
+unfoldable pub waitsOf : ℕ → ℕ
+waitsOf top =
+    ranged top
+    ((0xE0, 0) ∷
+    (0xE4, 2) ∷  -- IB, IW
+    (0xF0, 0) ∷
+    (0xFC, 1) ∷
+    (0xFE, 2) ∷  -- OB, OW
+    [])
+    0
+
+-- the highest b that is listed: "IB and IW take b 0-7, ISB 0-3"
+unfoldable pub optionsOf : ℕ → ℕ
+optionsOf top = ranged top ((0xE0, 15) ∷ (0xE4, 7) ∷ (0xE6, 3) ∷ []) 15
+
+-- NB ZB C4 C8, bits 3-0, as 5.3.2 marks them: all four, NB and ZB, or none
+unfoldable pub statusOf : ℕ → ℕ
+statusOf top =
+    ranged top
+    ((0x20, 0) ∷
+    (0x30, 0x0F) ∷  -- AL
+    (0x70, 0x0C) ∷  -- CL, NL, TL, LL
+    (0x76, 0) ∷
+    (0x78, 0x0F) ∷  -- CIB, CDB
+    (0x80, 0) ∷
+    (0x88, 0x0C) ∷  -- moves
+    (0xC0, 0x0F) ∷  -- shifts left to decrements
+    (0xD4, 0x0C) ∷  -- logic
+    (0xD8, 0) ∷
+    (0xE0, 0x0F) ∷  -- shifts right
+    (0xE8, 0x0C) ∷  -- inputs
+    (0xF0, 0) ∷
+    (0xF8, 0x0F) ∷  -- reads and writes that increment
+    [])
+    0
+
+-- N Z V C, bits 7-4, "only by LCF and odd codes 81-DF and E1-E7": such a code writes N Z V, and C where it writes C8
+unfoldable pub conditionOf : ℕ → ℕ
+conditionOf top =
+    ranged top
+    ((0x73, 0) ∷
+    (0x74, 0xF0) ∷  -- LCF
+    (0x80, 0) ∷
+    (0xE8, top % 2 * (0xE0 + 0x10 * (statusOf top % 2))) ∷
+    [])
+    0
+
+-- whether a register is written: "Compare and test write no register", nor do jumps, lines, interrupts and loads of G, TR, TSR or flags
+unfoldable pub storesOf : ℕ → Bool
+storesOf top =
+    ranged top
+    ((0x20, false) ∷
+    (0x30, true) ∷  -- AL
+    (0x40, false) ∷
+    (0x50, true) ∷  -- NL
+    (0x60, false) ∷
+    (0x70, true) ∷  -- LL
+    (0x72, false) ∷
+    (0x73, true) ∷  -- CCF
+    (0x76, false) ∷
+    (0xB4, true) ∷  -- CIB, CDB, moves to subtracts
+    (0xB8, false) ∷  -- CB, CW
+    (0xC4, true) ∷
+    (0xC8, false) ∷  -- TB, TW
+    (0xE8, true) ∷
+    (0xF0, false) ∷
+    (0xF8, true) ∷  -- reads and writes that increment
+    [])
+    false
+
+-- the row of an unlisted top byte
+abbrev pub blank : Row
+blank = record { class = Class.Unlisted; cycles = 0; pairs = 0; waits = 0; options = 0; flags = 0; stores = false }
+
+unfoldable pub rowOf : ℕ → Row
+rowOf top =
+    pick (listed (classOf top))
+    (record {
+      class = classOf top;
+      cycles = cyclesOf top;
+      pairs = pairsOf top;
+      waits = waitsOf top;
+      options = optionsOf top;
+      flags = conditionOf top + statusOf top;
+      stores = storesOf top;
+    })
+    blank
+
+-- the number of a class, and the class of a number
+abbrev pub numberIn : Class → ℕ
+numberIn Class.Unlisted = 0
+numberIn Class.Jump = 1
+numberIn Class.Conditional = 2
+numberIn Class.Literal = 3
+numberIn Class.Register = 4
+
+unfoldable pub classAt : ℕ → Class
+classAt n = ranged n ((1, Class.Unlisted) ∷ (2, Class.Jump) ∷ (3, Class.Conditional) ∷ (4, Class.Literal) ∷ []) Class.Register
+
+-- a row as one number, a hexadecimal digit for each field and two for the flags
+abbrev pub entryOf : Row → ℕ
+entryOf r =
+    numberIn (r .class) + 0x10 * r .cycles + 0x100 * r .pairs + 0x1000 * r .waits + 0x1_0000 * r .options + 0x10_0000 * r .flags +
+    0x1000_0000 * pick (r .stores) 1 0
+
+-- the rows of all 256 top bytes as numbers
+unfoldable pub entries : List ℕ
+entries = firsts (λ top. entryOf (rowOf top)) 0 0x100
+
+-- the row that such a number says
+unfoldable pub rowAt : ℕ → Row
+rowAt n =
+    record {
+      class = classAt (n % 0x10);
+      cycles = n / 0x10 % 0x10;
+      pairs = n / 0x100 % 0x10;
+      waits = n / 0x1000 % 0x10;
+      options = n / 0x1_0000 % 0x10;
+      flags = n / 0x10_0000 % 0x100;
+      stores = eqb (n / 0x1000_0000) 1;
+    }

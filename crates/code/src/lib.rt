@@ -1,0 +1,276 @@
+// The word taken apart and put together, and what its top byte alone decides.
+ghost use mathlib.Core.Path.{_≡_};
+ghost use Prim.Native.Nat.{_<_};
+ghost use lib.ListN.{getD};
+ghost use Rattle.code.specs.Rows.{classOf, classAt, listed, numberIn, rowOf, rowAt, entries};
+ghost use Rattle.code.specs.Word.{codeIn, operandsIn, apartOf, same, reachOf, fitsIn, wellFormed, lowOf, bit, togetherOf};
+
+mod table;
+
+// Manual 5.2's four classes of instruction, which are its formats.
+pub enum Class {
+    Unlisted,
+    Jump,
+    Conditional,
+    Literal,
+    Register,
+}
+
+// What the top byte alone decides. All fields of an unlisted one are 0.
+pub struct Row {
+    pub class: Class,
+    pub cycles: u8,
+    // 1: a has to be even; 3: a and b have to be.
+    pub pairs: u8,
+    // 1: waits while REPLY or BUSY is high; 2: waits while REPLY is low.
+    pub waits: u8,
+    // The highest b that is listed.
+    pub options: u8,
+    // The flags that it may write, as bits of the flag byte N Z V C NB ZB C4 C8.
+    pub flags: u8,
+    // Whether it writes a register.
+    pub stores: bool,
+}
+
+// What stands in the places of the format: an address, a literal with a register, or two designators.
+pub enum Operands {
+    Jump(u16),
+    Literal { value: u8, reg: u8 },
+    Two { b: u8, a: u8 },
+}
+
+// A listed word. The code is the instruction's first top byte: 00 JMP, 08 RFS, 20 AL, 30 CL, 40 NL, 50 TL, 60 LL; all others have one only.
+pub struct Fields {
+    pub code: u8,
+    pub class: Class,
+    pub operands: Operands,
+    pub load_rr: bool,
+    pub rni: bool,
+    pub user: u8,
+}
+
+pub enum Apart {
+    Word(Fields),
+    OutOfRange,
+    Unlisted,
+}
+
+// Malformed: no listed word has these fields.
+pub enum Together {
+    Word(u32),
+    Malformed,
+}
+
+// The class of a top byte.
+pub fn class_of(top: u8) -> Class
+    ensures { λ r. ⌜ r ≡ classOf top ⌝ }
+{
+    match top {
+        0x00..=0x0F => Class::Jump,
+        0x10..=0x1F => Class::Conditional,
+        0x20..=0x6F => Class::Literal,
+        0x70..=0x77 => Class::Register,
+        0x78..=0x7F => Class::Unlisted,
+        0x80..=0xAC => Class::Register,
+        0xAD => Class::Unlisted,
+        0xAE..=0xD3 => Class::Register,
+        0xD4..=0xD7 => Class::Unlisted,
+        0xD8..=0xE7 => Class::Register,
+        0xE8..=0xEB => Class::Unlisted,
+        _ => Class::Register,
+    }
+}
+
+// The table. Each call writes it out anew, so who asks for many rows keeps it and reads it by `row_in`.
+pub fn rows() -> [u32; 256]
+    ensures { λ r. ⌜ r ≡ entries ⌝ }
+{
+    table::ROWS
+}
+
+fn class_at(n: u32) -> Class
+    ensures { λ r. ⌜ r ≡ classAt n ⌝ }
+{
+    match n {
+        0 => Class::Unlisted,
+        1 => Class::Jump,
+        2 => Class::Conditional,
+        3 => Class::Literal,
+        _ => Class::Register,
+    }
+}
+
+// The row of a top byte in the table that `rows` gave.
+pub fn row_in(rows: &[u32; 256], top: u8) -> Row
+    ensures { λ r. ⌜ r ≡ rowAt (getD (now (rows .entry)) top 0) ⌝ }
+{
+    let i = top as usize;
+    let n = rows[i];
+    let class = class_at(n % 0x10);
+    Row {
+        class,
+        cycles: (n / 0x10 % 0x10) as u8,
+        pairs: (n / 0x100 % 0x10) as u8,
+        waits: (n / 0x1000 % 0x10) as u8,
+        options: (n / 0x1_0000 % 0x10) as u8,
+        flags: (n / 0x10_0000 % 0x100) as u8,
+        stores: n / 0x1000_0000 == 1,
+    }
+}
+
+pub fn row_of(top: u8) -> Row
+    ensures { λ r. ⌜ r ≡ rowOf top ⌝ }
+{
+    let table = rows();
+    row_in(&table, top)
+}
+
+fn is_listed(class: Class) -> bool
+    ensures { λ r. ⌜ r ≡ listed class ⌝ }
+{
+    match class {
+        Class::Unlisted => false,
+        Class::Jump => true,
+        Class::Conditional => true,
+        Class::Literal => true,
+        Class::Register => true,
+    }
+}
+
+fn code_in(class: Class, top: u8) -> u8
+    ensures { λ r. ⌜ r ≡ codeIn class top ⌝ }
+{
+    match class {
+        Class::Unlisted => top,
+        Class::Jump => top / 8 * 8,
+        Class::Conditional => top,
+        Class::Literal => top / 0x10 * 0x10,
+        Class::Register => top,
+    }
+}
+
+fn operands_in(class: Class, word: u32) -> Operands
+    ensures { λ r. ⌜ r ≡ operandsIn class word ⌝ }
+{
+    match class {
+        Class::Unlisted => Operands::Jump(0),
+        Class::Jump => Operands::Jump((word % 0x800) as u16),
+        Class::Conditional => Operands::Jump((word % 0x100) as u16),
+        Class::Literal => Operands::Literal {
+            value: (word / 0x10 % 0x100) as u8,
+            reg: (word % 0x10) as u8,
+        },
+        Class::Register => Operands::Two {
+            b: (word / 0x10 % 0x10) as u8,
+            a: (word % 0x10) as u8,
+        },
+    }
+}
+
+pub fn taken_apart(word: u32) -> Apart
+    ensures { λ r. ⌜ r ≡ apartOf word ⌝ }
+{
+    if 0x40_0000 <= word {
+        return Apart::OutOfRange;
+    }
+    let top = (word / 0x100 % 0x100) as u8;
+    let class = class_of(top);
+    if !is_listed(class) {
+        return Apart::Unlisted;
+    }
+    let code = code_in(class, top);
+    let operands = operands_in(class, word);
+    Apart::Word(Fields {
+        code,
+        class,
+        operands,
+        load_rr: word / 0x1_0000 % 2 == 1,
+        rni: word / 0x2_0000 % 2 == 1,
+        user: (word / 0x4_0000 % 0x10) as u8,
+    })
+}
+
+fn number_in(class: Class) -> u8
+    ensures { λ r. ⌜ r ≡ numberIn class ⌝ }
+{
+    match class {
+        Class::Unlisted => 0,
+        Class::Jump => 1,
+        Class::Conditional => 2,
+        Class::Literal => 3,
+        Class::Register => 4,
+    }
+}
+
+fn is_same(x: Class, y: Class) -> bool
+    ensures { λ r. ⌜ r ≡ same x y ⌝ }
+{
+    number_in(x) == number_in(y)
+}
+
+fn reach(class: Class) -> u16
+    ensures { λ r. ⌜ r ≡ reachOf class ⌝ }
+{
+    match class {
+        Class::Unlisted => 0,
+        Class::Jump => 0x800,
+        Class::Conditional => 0x100,
+        Class::Literal => 0,
+        Class::Register => 0,
+    }
+}
+
+fn fits(class: Class, operands: Operands) -> bool
+    ensures { λ r. ⌜ r ≡ fitsIn class operands ⌝ }
+{
+    match operands {
+        Operands::Jump(n) => n < reach(class),
+        Operands::Literal { value: _, reg } => (reg < 0x10) & is_same(class, Class::Literal),
+        Operands::Two { b, a } => (b < 0x10) & (a < 0x10) & is_same(class, Class::Register),
+    }
+}
+
+fn is_well_formed(f: Fields) -> bool
+    ensures { λ r. ⌜ r ≡ wellFormed f ⌝ }
+{
+    let code = f.code;
+    let class = f.class;
+    let operands = f.operands;
+    let own = class_of(code);
+    is_same(class, own) & (code_in(class, code) == code) & fits(class, operands) & (f.user < 0x10)
+}
+
+fn low_of(operands: Operands) -> u32
+    ensures { λ r. ⌜ (r ≡ lowOf operands) × (r < 0x1_0000) ⌝ }
+{
+    match operands {
+        Operands::Jump(n) => n as u32,
+        Operands::Literal { value, reg } => value as u32 * 0x10 + reg as u32,
+        Operands::Two { b, a } => b as u32 * 0x10 + a as u32,
+    }
+}
+
+fn bit_of(b: bool) -> u32
+    ensures { λ r. ⌜ (r ≡ bit b) × (r < 2) ⌝ }
+{
+    b as u32
+}
+
+pub fn put_together(f: Fields) -> Together
+    ensures { λ r. ⌜ r ≡ togetherOf f ⌝ }
+{
+    if !is_well_formed(f) {
+        return Together::Malformed;
+    }
+    let operands = f.operands;
+    let low = low_of(operands);
+    let load_rr = bit_of(f.load_rr);
+    let rni = bit_of(f.rni);
+    Together::Word(
+        low
+            + f.code as u32 * 0x100
+            + load_rr * 0x1_0000
+            + rni * 0x2_0000
+            + f.user as u32 * 0x4_0000,
+    )
+}
