@@ -1,0 +1,116 @@
+-- One attempt. 01, "One attempt".
+use Prim.Native.Nat.{ℕ, _+_, _*_, _/_, _%_}
+use mathlib.Core.Bool.{Bool, true, false, not}
+use mathlib.Core.List.{List}
+use lib.Bits.{bitOr}
+use lib.Dec.{eqb, ltb}
+use lib.ListN.{length, getD}
+use Rattle.choose.specs.Ranged.{pick}
+use Rattle.code.specs.Rows.{cyclesOf}
+use Rattle.code.specs.Word.{apartOf}
+use Rattle.code.specs.declared.Apart.{Apart}
+use Rattle.code.specs.declared.Fields.{Fields}
+use Rattle.checks.specs.Checks.{refusalOf, waitingOf}
+use Rattle.control.specs.Bus.{placed, lines}
+use Rattle.control.specs.Latches.{used}
+use Rattle.control.specs.Next.{inputsOf, addressOf}
+use Rattle.rows.specs.Scan.{scanOf, none}
+use Rattle.rows.specs.declared.Outputs.{Outputs}
+use Rattle.rows.specs.declared.Row.{Row}
+use Rattle.state.specs.declared.Core.{Core}
+use Rattle.state.specs.declared.Latches.{Latches}
+use Rattle.state.specs.declared.Sample.{Sample}
+use Rattle.attempt.specs.declared.Effect.{Effect}
+use Rattle.attempt.specs.declared.Outcome.{Outcome}
+use Rattle.attempt.specs.Effect.{effectOf}
+
+abbrev pub outcomeOf : Core → ℕ → ℕ → ℕ → Outcome
+outcomeOf k request cycles refusal = record { core = k; request = request; cycles = cycles; refusal = refusal }
+
+-- an outcome, and the file that it leaves
+pub record Ended : Type 0 where
+  pub file : List ℕ
+  pub outcome : Outcome
+
+abbrev pub ended : List ℕ → Outcome → Ended
+ended xs o = record { file = xs; outcome = o }
+
+-- a refusal returns the state before the attempt; a wait, RESET and COMPUTE low cost 1 and leave a request of their kind
+abbrev pub refused : List ℕ → Core → ℕ → Ended
+refused xs k number = ended xs (outcomeOf k 0 0 number)
+
+abbrev pub stood : List ℕ → Core → ℕ → Ended
+stood xs k kind = ended xs (outcomeOf k (placed kind 0) 1 0)
+
+-- an executed word: its effect, and the next address by the way it goes and the rows' outputs
+unfoldable pub executedOf : List ℕ → Core → Fields → Sample → Outputs → Ended
+executedOf xs k w sample o =
+    let e = effectOf xs k (w .code) (w .operands) sample in
+    ended (e .file)
+    (outcomeOf
+    (record {
+      flags = e .effect .flags;
+      address = addressOf (k .address) (e .effect .way) (w .code) (w .«load_rr») o;
+      bus = e .effect .bus;
+      latches = e .effect .latches;
+    })
+    (e .effect .request)
+    (cyclesOf (w .code))
+    0)
+
+-- "Then refusals, then waiting, then execution"
+unfoldable pub triedOf : List ℕ → Core → Fields → Sample → Outputs → Ended
+triedOf xs k w sample o =
+    pick (eqb (refusalOf (w .code) (w .operands)) 0)
+    (pick (waitingOf (w .code) sample) (stood xs k 10) (executedOf xs k w sample o))
+    (refused xs k (refusalOf (w .code) (w .operands)))
+
+-- "RESET high: LC becomes 1, SYNC and IACK go low, the waiting modification is dropped, nothing else changes"
+unfoldable pub resetOf : Core → Core
+resetOf k =
+    record {
+      flags = k .flags;
+      address = record { lc = 1; rr = k .address .rr; tsr = k .address .tsr };
+      bus = lines (k .bus .m) false false;
+      latches = used (k .latches);
+    }
+
+-- a word's four bytes, low first
+abbrev pub joined : ℕ → ℕ → ℕ → ℕ → ℕ
+joined a b c d = a + b * 0x100 + c * 0x1_0000 + d * 0x100_0000
+
+unfoldable pub wordAt : List ℕ → ℕ → ℕ
+wordAt ws at = joined (getD ws (at * 4) 0) (getD ws (at * 4 + 1) 0) (getD ws (at * 4 + 2) 0) (getD ws (at * 4 + 3) 0)
+
+-- "a waiting modification is ORed into its low 16 bits"
+unfoldable pub modifiedOf : ℕ → Latches → ℕ
+modifiedOf w l = pick (l .marked) (w / 0x1_0000 * 0x1_0000 + bitOr (w % 0x1_0000) (l .modification)) w
+
+-- "5: LC has no word"; then a code unlisted is 6. A word of 2^22 or more is 2, which a run refuses before its first attempt
+abbrev pub takenOf : Apart → Outputs → List ℕ → Core → Sample → Ended
+takenOf (Apart.Word w) o xs k sample = triedOf xs k w sample o
+takenOf Apart.OutOfRange o xs k sample = refused xs k 2
+takenOf Apart.Unlisted o xs k sample = refused xs k 6
+
+unfoldable pub fetchedOf : List ℕ → Outputs → List ℕ → Core → Sample → Ended
+fetchedOf ws o xs k sample =
+    pick (ltb (k .address .lc) (length ws / 4))
+    (takenOf (apartOf (modifiedOf (wordAt ws (k .address .lc)) (k .latches))) o xs k sample)
+    (refused xs k 5)
+
+-- "RESET high: .. (request kind 11). Else COMPUTE low: nothing changes (kind 12). .. Else the word at LC is taken"
+unfoldable pub attemptedOf : List ℕ → Outputs → List ℕ → Core → Sample → Ended
+attemptedOf ws o xs k sample =
+    pick (sample .reset) (stood xs (resetOf k) 11)
+    (pick (sample .compute) (fetchedOf ws o xs k sample) (stood xs k 12))
+
+-- "Outputs of all matching rows are ORed": those for the word at LC, with its own bit 17
+unfoldable pub outputsOf : List ℕ → List Row → Core → Sample → Outputs
+outputsOf ws rs k sample =
+    pick (ltb (k .address .lc) (length ws / 4))
+    (scanOf rs (inputsOf k (eqb (wordAt ws (k .address .lc) / 0x2_0000 % 2) 1) sample))
+    none
+
+-- one attempt: words, rows, registers, the rest of the state, sample
+unfoldable pub attemptOf : List ℕ → List Row → List ℕ → Core → Sample → Ended
+attemptOf ws rs xs k sample = attemptedOf ws (outputsOf ws rs k sample) xs k sample

@@ -1,0 +1,64 @@
+-- What an executed instruction does, but for the next address: registers and flags, bus, latches, request, and whether it jumps.
+use Prim.Native.Nat.{ℕ, _+_, _*_}
+use mathlib.Core.List.{List}
+use Rattle.alu.specs.declared.Flags.{Flags}
+use Rattle.code.specs.declared.Operands.{Operands}
+use Rattle.control.specs.Bus.{busOf, requestOf}
+use Rattle.control.specs.Latches.{used, latchesOf}
+use Rattle.control.specs.Next.{wayOf}
+use Rattle.control.specs.declared.Way.{Way}
+use Rattle.cycles.specs.Cycles.{Made}
+use Rattle.execute.specs.Execute.{literalOf, registersOf}
+use Rattle.state.specs.File.{registerOf}
+use Rattle.state.specs.declared.Core.{Core}
+use Rattle.state.specs.declared.Sample.{Sample}
+use Rattle.attempt.specs.declared.Effect.{Effect}
+
+-- an effect, and the file that it leaves
+pub record Effected : Type 0 where
+  pub file : List ℕ
+  pub effect : Effect
+
+abbrev pub effected : List ℕ → Effect → Effected
+effected xs e = record { file = xs; effect = e }
+
+-- JMP, RFS and the conditional jumps leave registers, flags and bus; "execution .. uses the modification up"
+unfoldable pub jumpedOf : Core → ℕ → ℕ → Effect
+jumpedOf core code n =
+    record {
+      flags = core .flags;
+      bus = core .bus;
+      latches = used (core .latches);
+      way = wayOf (core .address .lc) code n (core .flags) (core .latches .ics);
+      request = 0;
+    }
+
+-- literals leave the bus
+unfoldable pub literalEffect : List ℕ → Core → ℕ → ℕ → ℕ → Effected
+literalEffect xs core code v a =
+    let m = literalOf xs (core .latches .g) (core .flags) code v a in
+    effected (m .file) (record { flags = m .flags; bus = core .bus; latches = used (core .latches); way = Way.Onward; request = 0 })
+
+-- Rb:Ra, Rb high
+abbrev pub pairOf : ℕ → ℕ → ℕ
+pairOf rb ra = rb * 256 + ra
+
+-- requests, M, TR and the modification take "Rb:Ra before any change", by "G before the attempt"
+unfoldable pub registerEffect : List ℕ → Core → ℕ → ℕ → ℕ → Sample → Effected
+registerEffect xs core code b a sample =
+    let ra = registerOf xs (core .latches .g) a in
+    let pair = pairOf (registerOf xs (core .latches .g) b) ra in
+    let m = registersOf xs core (sample .dal) code b a in
+    effected (m .file)
+    (record {
+      flags = m .flags;
+      bus = busOf (core .bus) code b pair;
+      latches = latchesOf (core .latches) code b ra pair sample;
+      way = Way.Onward;
+      request = requestOf code pair (sample .dal);
+    })
+
+unfoldable pub effectOf : List ℕ → Core → ℕ → Operands → Sample → Effected
+effectOf xs core code (Operands.Jump n) sample = effected xs (jumpedOf core code n)
+effectOf xs core code (Operands.Literal v a) sample = literalEffect xs core code v a
+effectOf xs core code (Operands.Two b a) sample = registerEffect xs core code b a sample

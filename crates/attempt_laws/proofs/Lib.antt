@@ -1,0 +1,9 @@
+pub mod Choice
+pub mod Files
+pub mod Registers
+pub mod Control
+pub mod Cases
+pub mod Range
+pub mod Refusal
+pub mod Starred
+pub mod Fate

@@ -1,0 +1,1 @@
+// Laws of one attempt, which are about all rooms together: no code.

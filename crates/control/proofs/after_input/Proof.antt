@@ -1,0 +1,20 @@
+-- `control::after_input` meets its contract: RMW apart.
+use borrow.Author.Tests.{eq-eqb, ne-eqb}
+use Rattle.control.specs.Bus.{afterInput}
+use borrow.Author.Needs.{needs}
+use Rattle.control.proofs.after_input.Statement.{statement}
+use Rattle.control.proofs.after_input.Tie as tie
+
+returns : tie.Need-returns
+unfolding afterInput
+returns c = rw (eq-eqb _ _ (c .if1 .taken))
+
+lines-requires : tie.Need-lines-requires
+lines-requires c κs = search needs
+
+returns-2 : tie.Need-returns-2
+unfolding afterInput
+returns-2 c = rw (ne-eqb _ _ (c .before .if1 .left), c .lines .ensures)
+
+pub after-input-spec : {M : Type 1} → statement M
+after-input-spec = tie.close (tie.spec returns lines-requires returns-2)

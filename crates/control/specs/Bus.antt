@@ -1,0 +1,48 @@
+-- The bus after an executed instruction, and its request. 01, "One attempt" and "Codes, cycles and flags".
+use Prim.Native.Nat.{ℕ, _+_, _-_, _*_, _/_, _%_}
+use mathlib.Core.Bool.{Bool, true, false}
+use mathlib.Core.List.{List, [], _∷_}
+use lib.Dec.{eqb}
+use Rattle.choose.specs.Ranged.{pick, ranged}
+use Rattle.state.specs.declared.Bus.{Bus}
+
+abbrev pub lines : ℕ → Bool → Bool → Bus
+lines m s i = record { m = m; sync = s; iack = i }
+
+-- "IB, IW drop SYNC and IACK unless b is 4-7 (RMW)"
+unfoldable pub afterInput : Bus → ℕ → Bus
+afterInput h b = pick (eqb (b / 4 % 2) 1) h (lines (h .m) false false)
+
+-- "Reads and writes set M and SYNC; RA, WA also IACK. OB, OW, OS set M. .. OB and OW drop them." The pair is Rb:Ra before any change
+unfoldable pub busOf : Bus → ℕ → ℕ → ℕ → Bus
+busOf h code b pair =
+    ranged code
+    ((0xE0, h) ∷
+    (0xE4, afterInput h b) ∷  -- IB, IW
+    (0xF0, h) ∷
+    (0xFA, lines pair true (h .iack)) ∷  -- F0-F7, R, W
+    (0xFC, lines pair true true) ∷  -- RA, WA
+    (0xFE, lines pair false false) ∷  -- OB, OW
+    (0xFF, lines pair (h .sync) (h .iack)) ∷  -- OS
+    [])
+    h
+
+-- "A request is kind times 65,536 plus a value"
+abbrev pub placed : ℕ → ℕ → ℕ
+placed kind value = kind * 65536 + value
+
+-- "0 none, 1 read, 2 write, 3 read acknowledge, 4 write acknowledge (value Rb:Ra before any change), 5 data in (the sample's data),
+-- 6 word out, 7 byte out, 8 status out (Rb:Ra), 9 status in (data)"
+unfoldable pub requestOf : ℕ → ℕ → ℕ → ℕ
+requestOf code pair dal =
+    ranged code
+    ((0xE0, 0) ∷
+    (0xE4, placed 5 dal) ∷  -- IB, IW
+    (0xE8, placed 9 dal) ∷  -- ISB, ISW
+    (0xF0, 0) ∷
+    (0xFA, placed (1 + code % 2) pair) ∷  -- even codes read, odd ones write
+    (0xFC, placed (3 + code % 2) pair) ∷  -- RA, WA
+    (0xFE, placed (7 - code % 2) pair) ∷  -- OB, OW
+    (0xFF, placed 8 pair) ∷  -- OS
+    [])
+    0

@@ -1,0 +1,3 @@
+pub mod Bus
+pub mod Latches
+pub mod Next

@@ -1,0 +1,300 @@
+// What an executed instruction does outside the register file: bus, request, latches, and the next address.
+use alu::Flags;
+use rows::Inputs;
+use rows::Outputs;
+use state::Address;
+use state::Bus;
+use state::Core;
+use state::Latches;
+use state::Sample;
+ghost use mathlib.Core.Path.{_≡_};
+ghost use Rattle.alu.specs.Cycle.{bit};
+ghost use Rattle.control.specs.Bus.{lines, afterInput, busOf, placed, requestOf};
+ghost use Rattle.control.specs.Latches.{used, withInterrupts, waiting, taken, inputLatchesOf, latchesOf};
+ghost use Rattle.control.specs.Next.{conditionOf, heldOf, withinPage, wayOf, trByteOf, inputsOf, plusOne, onwardOf, nextOf, rrOf, tsrOf, addressOf};
+
+fn lines(m: u16, sync: bool, iack: bool) -> Bus
+    ensures { λ r. ⌜ r ≡ lines m sync iack ⌝ }
+{
+    Bus { m, sync, iack }
+}
+
+// IB and IW: b 4-7 is RMW, which keeps the bus.
+fn after_input(held: Bus, b: u8) -> Bus
+    ensures { λ r. ⌜ r ≡ afterInput held b ⌝ }
+{
+    if b / 4 % 2 == 1 {
+        return held;
+    }
+    lines(held.m, false, false)
+}
+
+pub fn bus_after(held: Bus, code: u8, b: u8, pair: u16) -> Bus
+    ensures { λ r. ⌜ r ≡ busOf held code b pair ⌝ }
+{
+    match code {
+        0x00..=0xDF => held,
+        0xE0..=0xE3 => after_input(held, b),
+        0xE4..=0xEF => held,
+        0xF0..=0xF9 => lines(pair, true, held.iack),
+        0xFA..=0xFB => lines(pair, true, true),
+        0xFC..=0xFD => lines(pair, false, false),
+        0xFE => lines(pair, held.sync, held.iack),
+        _ => held,
+    }
+}
+
+// A request of a kind with its value.
+pub fn placed(kind: u8, value: u16) -> u32
+    ensures { λ r. ⌜ r ≡ placed kind value ⌝ }
+{
+    kind as u32 * 65536 + value as u32
+}
+
+pub fn request(code: u8, pair: u16, dal: u16) -> u32
+    ensures { λ r. ⌜ r ≡ requestOf code pair dal ⌝ }
+{
+    match code {
+        0x00..=0xDF => 0,
+        0xE0..=0xE3 => placed(5, dal),
+        0xE4..=0xE7 => placed(9, dal),
+        0xE8..=0xEF => 0,
+        0xF0..=0xF9 => placed(1 + code % 2, pair),
+        0xFA..=0xFB => placed(3 + code % 2, pair),
+        0xFC..=0xFD => placed(7 - code % 2, pair),
+        0xFE => placed(8, pair),
+        _ => 0,
+    }
+}
+
+// The modification is used up by every execution.
+pub fn used(l: Latches) -> Latches
+    ensures { λ r. ⌜ r ≡ used l ⌝ }
+{
+    Latches {
+        g: l.g,
+        tr: l.tr,
+        ics: l.ics,
+        interrupts: l.interrupts,
+        marked: false,
+        modification: 0,
+    }
+}
+
+fn with_interrupts(l: Latches, interrupts: u8) -> Latches
+    ensures { λ r. ⌜ r ≡ withInterrupts l interrupts ⌝ }
+{
+    Latches {
+        g: l.g,
+        tr: l.tr,
+        ics: l.ics,
+        interrupts,
+        marked: false,
+        modification: 0,
+    }
+}
+
+// What IW takes besides the registers: TR from the lines, ICS from the sample, and G.
+fn taken(l: Latches, g: u8, tr: u16, ics: bool) -> Latches
+    ensures { λ r. ⌜ r ≡ taken l g tr ics ⌝ }
+{
+    Latches {
+        g,
+        tr,
+        ics,
+        interrupts: l.interrupts,
+        marked: false,
+        modification: 0,
+    }
+}
+
+fn input_latches(l: Latches, b: u8, dal: u16, ics: bool) -> Latches
+    ensures { λ r. ⌜ r ≡ inputLatchesOf l b dal ics ⌝ }
+{
+    match b % 4 {
+        0 => used(l),
+        1 => taken(l, (dal / 16 % 8) as u8, dal, ics),
+        2 => taken(l, (dal / 64 % 8) as u8, dal, ics),
+        _ => taken(l, l.g, dal, ics),
+    }
+}
+
+// MI: the modification of the next word waits, marked.
+fn waiting(l: Latches, modification: u16) -> Latches
+    ensures { λ r. ⌜ r ≡ waiting l modification ⌝ }
+{
+    Latches {
+        g: l.g,
+        tr: l.tr,
+        ics: l.ics,
+        interrupts: l.interrupts,
+        marked: true,
+        modification,
+    }
+}
+
+pub fn latches_after(l: Latches, code: u8, b: u8, ra: u8, pair: u16, sample: Sample) -> Latches
+    ensures { λ r. ⌜ r ≡ latchesOf l code b ra pair sample ⌝ }
+{
+    match code {
+        0x00..=0x6F => used(l),
+        0x70 => with_interrupts(l, l.interrupts & (7 - b % 8)),
+        0x71 => with_interrupts(l, l.interrupts | b % 8),
+        0x72..=0x74 => used(l),
+        0x75 => taken(l, ra % 8, l.tr, l.ics),
+        0x76..=0xE1 => used(l),
+        0xE2..=0xE3 => input_latches(l, b, sample.dal, sample.ics),
+        0xE4..=0xEB => used(l),
+        0xEC..=0xED => waiting(l, pair),
+        0xEE..=0xEF => taken(l, l.g, pair, l.ics),
+        _ => used(l),
+    }
+}
+
+// Where an instruction goes: a taken jump, the return from a subroutine, or on, by the rows or to the next word.
+pub enum Way {
+    Jump(u16),
+    Return,
+    Onward,
+}
+
+fn condition(code: u8, f: Flags, ics: bool) -> bool
+    ensures { λ r. ⌜ r ≡ conditionOf code f ics ⌝ }
+{
+    match code {
+        0x00..=0x11 => f.zb,
+        0x12..=0x13 => f.c8,
+        0x14..=0x15 => ics,
+        0x16..=0x17 => f.nb,
+        0x18..=0x19 => f.z,
+        0x1A..=0x1B => f.c,
+        0x1C..=0x1D => f.v,
+        _ => f.n,
+    }
+}
+
+// Odd codes jump where the condition is true, even ones where it is false.
+fn held(code: u8, f: Flags, ics: bool) -> bool
+    ensures { λ r. ⌜ r ≡ heldOf code f ics ⌝ }
+{
+    let t = condition(code, f, ics);
+    if code % 2 == 1 {
+        return t;
+    }
+    !t
+}
+
+fn within_page(lc: u16, n: u16, jumps: bool) -> Way
+    ensures { λ r. ⌜ r ≡ withinPage lc n jumps ⌝ }
+{
+    if jumps {
+        return Way::Jump(lc / 256 * 256 + n % 256);
+    }
+    Way::Onward
+}
+
+pub fn way_of(lc: u16, code: u8, n: u16, f: Flags, ics: bool) -> Way
+    ensures { λ r. ⌜ r ≡ wayOf lc code n f ics ⌝ }
+{
+    match code {
+        0x00..=0x07 => Way::Jump(n),
+        0x08..=0x0F => Way::Return,
+        0x10..=0x1F => within_page(lc, n, held(code, f, ics)),
+        _ => Way::Onward,
+    }
+}
+
+fn digit(b: bool) -> u8
+    ensures { λ r. ⌜ r ≡ bit b ⌝ }
+{
+    if b {
+        return 1;
+    }
+    0
+}
+
+// The byte of TR that the rows see.
+fn tr_byte(tr: u16, tsr: u8) -> u8
+    ensures { λ r. ⌜ r ≡ trByteOf tr tsr ⌝ }
+{
+    if tsr / 4 % 2 == 1 {
+        return (tr % 256) as u8;
+    }
+    (tr / 256) as u8
+}
+
+pub fn inputs(core: Core, rni: bool, sample: Sample) -> Inputs
+    ensures { λ r. ⌜ r ≡ inputsOf core rni sample ⌝ }
+{
+    let a = core.address;
+    let l = core.latches;
+    let bit17 = digit(rni);
+    let tr = tr_byte(l.tr, a.tsr);
+    Inputs {
+        lc: a.lc,
+        rni: bit17,
+        tr,
+        tsr: a.tsr % 4,
+        interrupts: sample.interrupts % 16 + l.interrupts % 8 * 16,
+    }
+}
+
+fn plus_one(lc: u16) -> u16
+    ensures { λ r. ⌜ r ≡ plusOne lc ⌝ }
+{
+    (lc % 2048 + 1) % 2048
+}
+
+// With no jump: LRA, else LTA, else the next word.
+fn onward(a: Address, o: Outputs) -> u16
+    ensures { λ r. ⌜ r ≡ onwardOf a o ⌝ }
+{
+    if rows::lra(o) {
+        return a.rr;
+    }
+    if rows::lta(o) {
+        return o.address;
+    }
+    plus_one(a.lc)
+}
+
+fn next(a: Address, way: Way, o: Outputs) -> u16
+    ensures { λ r. ⌜ r ≡ nextOf a way o ⌝ }
+{
+    match way {
+        Way::Jump(to) => to,
+        Way::Return => a.rr,
+        Way::Onward => onward(a, o),
+    }
+}
+
+fn rr_after(a: Address, loads: bool) -> u16
+    ensures { λ r. ⌜ r ≡ rrOf a loads ⌝ }
+{
+    if loads {
+        return plus_one(a.lc);
+    }
+    a.rr
+}
+
+// RTSR clears TSR and wins over LTSR.
+fn tsr_after(tsr: u8, code: u8, o: Outputs) -> u8
+    ensures { λ r. ⌜ r ≡ tsrOf tsr code o ⌝ }
+{
+    if code == 0x74 {
+        return 0;
+    }
+    if rows::ltsr(o) {
+        return o.new_tsr;
+    }
+    tsr
+}
+
+pub fn address_after(a: Address, way: Way, code: u8, loads: bool, o: Outputs) -> Address
+    ensures { λ r. ⌜ r ≡ addressOf a way code loads o ⌝ }
+{
+    let lc = next(a, way, o);
+    let rr = rr_after(a, loads);
+    let tsr = tsr_after(a.tsr, code, o);
+    Address { lc, rr, tsr }
+}

@@ -1,0 +1,80 @@
+-- `deck::rows_in_range` meets its contract: the invariant is that the rows passed hold. Assumes nothing.
+use native.Mathlib.Omega.{arith}
+use borrow.Author.Needs.{needs}
+use mathlib.Core.Path.{_≡_, sym, ap, _∙_}
+use mathlib.Core.Bool.{Bool, true}
+use mathlib.Core.List.{List}
+use Prim.Native.Nat.{ℕ, _*_, _/_, _-_, _≤_, zero-le}
+use borrow.Author.Tests.{not-true, not-false, le-leb, lt-leb}
+use lib.ListN.{length, getD}
+use Rattle.rows.specs.Section.{emptyRow, rowOf}
+use Rattle.rows.specs.declared.Row.{Row}
+use Rattle.rows.specs.Range.{rowInRange}
+use Rattle.deck.specs.Ranges.{every, rowsPartInRange}
+use Rattle.deck.proofs.Every.{every-none, every-more, every-fails, rows-every, table-row}
+use Rattle.deck.proofs.rows_in_range.Statement.{statement}
+use Rattle.deck.proofs.rows_in_range.Tie as tie
+
+-- the test of row i
+abbrev row : List ℕ → ℕ → Bool
+row s i = rowInRange (rowOf s (i * 16))
+
+abbrev Inv-loop : tie.InvT-loop
+Inv-loop part n table i₀ i = (i ≤ n) × (every (row part) i ≡ true)
+
+abbrev μ-loop : tie.MeasureT-loop
+μ-loop part n table i₀ i = n - i
+
+-- what `in_range` says of row i of the table is the test of row i
+passed : (c : tie.After-in-range Inv-loop μ-loop) → c .in-range .result ≡ row (c .before .before .before .before .before .before .before .args .part .now) (c .before .before .before .loop .i)
+passed c =
+    let i = c .before .before .before .loop .i in
+    let part = c .before .before .before .before .before .before .before .args .part .now in
+    c .in-range .ensures
+    ∙ ap (λ (l : List Row). rowInRange (getD l i emptyRow)) (c .before .before .before .before .load .ensures)
+    ∙ ap rowInRange (table-row part i (c .before .before .loop-test .taken) (c .before .before .before .before .before .if1 .left))
+
+returns : tie.Need-returns Inv-loop μ-loop
+unfolding rowsPartInRange
+returns c = rw (lt-leb _ 128 (c .if1 .taken))
+
+loop-holds : tie.Need-loop-holds Inv-loop μ-loop
+loop-holds c = (zero-le, every-none (row (c .before .before .before .args .part .now)))
+
+returns-2 : tie.Need-returns-2 Inv-loop μ-loop
+unfolding rowsPartInRange
+returns-2 c =
+    let at = c .before .before .before .before in
+    let start = at .before .before .before .before in
+    rw (le-leb _ 128 (at .before .before .if1 .left), rows-every (start .args .part .now) (length (start .args .part .now) / 16))
+    (sym (every-fails (row (start .args .part .now)) _ (at .loop .i) (c .before .before .before .loop-test .taken) (sym (passed (c .before)) ∙ not-true _ (c .if2 .taken))))
+
+loop-again : tie.Need-loop-again Inv-loop μ-loop
+loop-again c =
+    let at = c .before .before .before .before in
+    (omega arith, every-more (row (at .before .before .before .before .args .part .now)) (at .loop .i) (at .loop .inv .1) (sym (passed (c .before)) ∙ not-false _ (c .if2 .left)))
+
+returns-3 : tie.Need-returns-3 Inv-loop μ-loop
+unfolding rowsPartInRange
+returns-3 c =
+    let start = c .before .before .before .before .before in
+    let e : c .before .loop .i ≡ length (start .args .part .now) / 16 = omega arith in
+    rw (le-leb _ 128 (c .before .before .before .if1 .left), rows-every (start .args .part .now) (length (start .args .part .now) / 16)) (sym (rw e at (c .before .loop .inv .1)))
+
+pub rows-in-range-spec : {M : Type 1} → statement M
+rows-in-range-spec =
+    tie.close
+    (tie.spec
+    Inv-loop
+    μ-loop
+    returns
+    (λ c κs. search needs)
+    loop-holds
+    (λ c. search needs)
+    (λ c. search needs)
+    (λ c κs. search needs)
+    returns-2
+    (λ c. omega arith)
+    (λ c. omega arith)
+    loop-again
+    returns-3)

@@ -1,0 +1,60 @@
+-- `deck::section` meets its contract: a section of a whole deck lies within it. Assumes nothing.
+use native.Mathlib.Omega.{arith}
+use mathlib.Core.Path.{_≡_, sym, _∙_}
+use Prim.Native.Nat.{_+_, _-_, _*_, _≤_}
+use lib.ListN.{length}
+use Rattle.deck.specs.Sections.{afterOf, sectionOf}
+use Rattle.deck.proofs.Laws.{after-ge}
+use borrow.Author.Needs.{needs}
+use Rattle.deck.proofs.section.Statement.{statement}
+use Rattle.deck.proofs.section.Tie as tie
+
+within : (c : tie.Then1) → afterOf (c .before .before .before .args .deck .now) (c .before .before .before .args .a) (c .before .before .before .args .size) ≤ length (c .before .before .before .args .deck .now)
+within c = c .before .before .before .pre (sym (c .before .whole .ensures) ∙ c .if1 .taken)
+
+room : (c : tie.After-pair-at) → c .before .before .before .before .args .a + 2 + c .before .before .before .before .args .size * c .pair-at .result ≤ length (c .before .before .before .before .args .deck .now)
+unfolding afterOf
+room c = rw (c .pair-at .ensures) (within (c .before))
+
+add-from : tie.Need-add-from
+add-from c = omega (arith, after-ge (c .before .before .before .args .deck .now) (c .before .before .before .args .a) (c .before .before .before .args .size), within c)
+
+mul-end : tie.Need-mul-end
+mul-end c = omega (arith, room c)
+
+add-end : tie.Need-add-end
+add-end c = omega (arith, room c)
+
+part-result-end : tie.Need-part-result-end
+part-result-end c = room c
+
+returns : tie.Need-returns
+unfolding sectionOf
+returns c =
+    let count = c .before .pair-at .result in
+    let args = c .before .before .before .before .before .args in
+    let e : args .a + 2 + args .size * count - (args .a + 2) ≡ args .size * count = omega arith in
+    rw (e, c .before .pair-at .ensures, sym (c .before .before .before .whole .ensures) ∙ c .before .before .if1 .taken)
+
+returns-2 : tie.Need-returns-2
+unfolding sectionOf
+returns-2 c = rw (sym (c .before .before .whole .ensures) ∙ c .before .if1 .left)
+
+pub section-spec : {M : Type 1} → statement M
+section-spec =
+    tie.close
+    (tie.spec
+    (λ c κs. search needs)
+    add-from
+    (λ c κs. search needs)
+    (λ c. search needs)
+    mul-end
+    add-end
+    (λ c. search needs)
+    (λ c. search needs)
+    part-result-end
+    returns
+    (λ c. search needs)
+    (λ c. search needs)
+    (λ c. search needs)
+    returns-2)

@@ -1,0 +1,3 @@
+pub mod Sections
+pub mod Elements
+pub mod Ranges

@@ -1,0 +1,62 @@
+-- "Numbers on the refusal slip", those before the first attempt: 9, then 1, 2, 3, 4.
+use mathlib.Core.Path.{_≡_}
+use mathlib.Core.Bool.{Bool, true, false, _&&_}
+use mathlib.Core.List.{List}
+use Prim.Native.Nat.{ℕ, zero, suc, _+_, _*_, _/_, _≤_}
+use lib.Dec.{eqb, leb, ltb}
+use lib.ListN.{length}
+use Rattle.numbers.specs.Numbers.{byteAt}
+use Rattle.rows.specs.Section.{rowsOf}
+use Rattle.rows.specs.Range.{rowsInRange}
+use Rattle.state_bytes.specs.Range.{stateInRange}
+use Rattle.deck.specs.Sections.{wholeOf, wordsPart, rowsPart, statePart, samplesPart}
+use Rattle.deck.specs.Elements.{wordAt, linesAt, interruptsAt}
+
+-- the test holds of each number below n
+unfoldable pub every : (ℕ → Bool) → ℕ → Bool
+every test zero = true
+every test (suc n) = every test n && test n
+
+-- of each whole element of four bytes, the last two have these limits
+unfoldable pub everyQuad : List ℕ → ℕ → ℕ → Bool
+everyQuad s third fourth = every (λ i. leb (byteAt s (i * 4 + 2)) third && leb (byteAt s (i * 4 + 3)) fourth) (length s / 4)
+
+-- 2: "over 2,048 words, or a word of 2^22 or more"
+unfoldable pub wordsInRange : List ℕ → Bool
+wordsInRange s = leb (length s / 4) 2048 && every (λ i. ltb (wordAt s i) 4194304) (length s / 4)
+
+-- 3: "over 128 rows, or a row out of range"
+unfoldable pub rowsPartInRange : List ℕ → Bool
+rowsPartInRange s = leb (length s / 16) 128 && rowsInRange (rowsOf s (length s / 16))
+
+-- 4: "over 65,535 samples, a sample out of range"
+unfoldable pub samplesInRange : List ℕ → Bool
+samplesInRange s = leb (length s / 4) 65535 && every (λ i. leb (linesAt s i) 31 && leb (interruptsAt s i) 15) (length s / 4)
+
+-- 4: "or the request buffer shorter than the samples"; a place of the buffer is four bytes
+abbrev pub placesEnough : List ℕ → ℕ → Bool
+placesEnough s requests = leb (length s / 4) (requests / 4)
+
+abbrev pub unless : Bool → ℕ → ℕ → ℕ
+unless true number rest = rest
+unless false number rest = number
+
+-- "Order: 9, then 1, 2, 3, 4"; 9 also for "the host's state buffer not 41 bytes"
+unfoldable pub refusalOf : List ℕ → ℕ → ℕ → ℕ
+refusalOf s requests buffer =
+    unless (wholeOf s && eqb buffer 41) 9
+    (unless (stateInRange (statePart s)) 1
+    (unless (wordsInRange (wordsPart s)) 2
+    (unless (rowsPartInRange (rowsPart s)) 3
+    (unless (samplesInRange (samplesPart s) && placesEnough (samplesPart s) requests) 4
+    0))))
+
+-- what holds of a deck and the lengths of the two buffers where there is no refusal
+pub record Accepted (s : List ℕ) (requests buffer : ℕ) : Type 0 where
+  pub whole : wholeOf s ≡ true
+  pub buffer-length : buffer ≡ 41
+  pub state : stateInRange (statePart s) ≡ true
+  pub words : wordsInRange (wordsPart s) ≡ true
+  pub rows : rowsPartInRange (rowsPart s) ≡ true
+  pub samples : samplesInRange (samplesPart s) ≡ true
+  pub places : length (samplesPart s) / 4 ≤ requests / 4

@@ -1,0 +1,115 @@
+// The run, and the bench host's entry.
+use rows::Row;
+use state::Core;
+ghost use mathlib.Core.Path.{_≡_};
+ghost use Prim.Native.Nat.{_*_, _+_, _≤_};
+ghost use lib.ListN.{length, take};
+ghost use Rattle.engine.specs.Run.{world, put4Of, runFrom, samplesFrom, worldOf};
+ghost use Rattle.engine.specs.Host.{hosted, hostOf};
+
+fn put4(b: &mut [u8], at: usize, x: u32)
+    requires { ⌜ at + 4 ≤ length (now b) ⌝ }
+    ensures { λ _. ⌜ now (b .exit) ≡ put4Of (now (b .entry)) at x ⌝ }
+{
+    b[at] = (x % 256) as u8;
+    b[at + 1] = (x / 256 % 256) as u8;
+    b[at + 2] = (x / 65536 % 256) as u8;
+    b[at + 3] = (x / 16777216 % 256) as u8;
+}
+
+// What a run leaves besides the registers and the places.
+pub struct Ran {
+    pub core: Core,
+    pub answer: u8,
+    pub attempts: usize,
+    pub microcycles: u32,
+}
+
+// An attempt for each of n samples, until one is refused.
+fn attempts(
+    words: &[u8],
+    table: [Row; 128],
+    m: usize,
+    samples: &[u8],
+    requests: &mut [u8],
+    file: &mut [u8; 26],
+    first: Core,
+    n: usize,
+) -> Ran
+    requires { ⌜ (n ≤ 65535) × (n * 4 ≤ length (now requests)) ⌝ }
+    ensures short { λ r. ⌜ r .attempts ≤ n ⌝ }
+    ensures whole { λ r. ⌜ worldOf r (now (file .exit)) (now (requests .exit)) ≡ runFrom (now (words .entry)) (take m table) (samplesFrom (now (samples .entry)) 0 n) (world (now (file .entry)) first 0 0 0 (now (requests .entry))) ⌝ }
+{
+    let mut core = first;
+    let mut microcycles: u32 = 0;
+    let mut i = 0;
+    while i < n {
+        let s = deck::sample(samples, i);
+        let o = attempt::attempt(words, table, m, file, core, s);
+        let answer = o.refusal;
+        if answer != 0 {
+            return Ran {
+                core,
+                answer,
+                attempts: i,
+                microcycles,
+            };
+        }
+        put4(requests, i * 4, o.request);
+        microcycles += o.cycles as u32;
+        core = o.core;
+        i += 1;
+    }
+    Ran {
+        core,
+        answer: 0,
+        attempts: i,
+        microcycles,
+    }
+}
+
+#[repr(C)]
+pub struct Report {
+    pub answer: u32,
+    pub attempts: u32,
+    pub microcycles: u32,
+}
+
+// The bench host's entry: a deck's bytes, a place of four bytes for each sample, and 41 bytes for the state returned.
+#[no_mangle]
+pub extern "C" fn run(deck: &[u8], requests: &mut [u8], state: &mut [u8]) -> Report
+    ensures { λ r. ⌜ hosted r (now (requests .exit)) (now (state .exit)) ≡ hostOf (now (deck .entry)) (now (requests .entry)) (now (state .entry)) ⌝ }
+{
+    let number = deck::refusal(deck, requests.len(), state.len());
+    if number != 0 {
+        return Report {
+            answer: number as u32,
+            attempts: 0,
+            microcycles: 0,
+        };
+    }
+    let mut file = [0u8; 26];
+    let core = state_bytes::load(deck::state(deck), &mut file);
+    let part = deck::rows(deck);
+    let table = rows::load(part);
+    let m = part.len() / 16;
+    let samples = deck::samples(deck);
+    let n = samples.len() / 4;
+    let ran = attempts(
+        deck::words(deck),
+        table,
+        m,
+        samples,
+        requests,
+        &mut file,
+        core,
+        n,
+    );
+    let after = ran.core;
+    state_bytes::store(after, &file, state);
+    Report {
+        answer: ran.answer as u32,
+        attempts: ran.attempts as u32,
+        microcycles: ran.microcycles,
+    }
+}

@@ -1,0 +1,3 @@
+mod Steps
+mod Lent
+pub mod Laws

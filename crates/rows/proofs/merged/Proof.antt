@@ -1,0 +1,20 @@
+-- `rows::merged` meets its contract: each `return` goes by what `matched` ensures. Assumes nothing.
+use mathlib.Core.Path.{sym, _∙_}
+use borrow.Author.Needs.{needs}
+use Rattle.rows.specs.Scan.{mergedOf}
+use Rattle.rows.proofs.merged.Statement.{statement}
+use Rattle.rows.proofs.merged.Tie as tie
+
+matched-requires : tie.Need-matched-requires
+matched-requires c κs = search needs
+
+returns : tie.Need-returns
+unfolding mergedOf
+returns c = rw (sym (c .before .before .before .before .before .before .before .matched .ensures) ∙ c .before .before .before .before .before .before .if1 .taken)
+
+returns-2 : tie.Need-returns-2
+unfolding mergedOf
+returns-2 c = rw (sym (c .before .matched .ensures) ∙ c .if1 .left)
+
+pub merged-spec : {M : Type 1} → statement M
+merged-spec = tie.close (tie.spec matched-requires returns returns-2)

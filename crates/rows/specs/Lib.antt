@@ -1,0 +1,3 @@
+pub mod Scan
+pub mod Section
+pub mod Range

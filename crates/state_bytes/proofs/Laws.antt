@@ -1,0 +1,158 @@
+-- The state's 41 bytes against the file and the core: there and back, and in range there and back. Assumes nothing.
+use mathlib.Core.Path.{_≡_, refl}
+use mathlib.Core.Bool.{Bool, true, false, _&&_, _||_, false≢true, and-eq-true-iff}
+use mathlib.Core.List.{List, [], _∷_, append-assoc}
+use Prim.Native.Nat.{ℕ, zero, suc, _+_, _%_, _<_, _≤_}
+use native.Mathlib.Nat.{mod-add-div}
+use native.Mathlib.Omega.{arith}
+use borrow.Author.Tests.{leb-true, le-leb, eqb-true, eq-eqb}
+use lib.Dec.{eqb, leb}
+use lib.ListN.{length, drop, length-append, take-append-drop, drop-of-length-le}
+use lib.Seq.{drop-cons, take-append-le, take-at, getD-append-add, length-take-le}
+use Rattle.alu.specs.Numbers.{Bytes}
+use Rattle.numbers.specs.Numbers.{byteAt, AllBytes}
+use Rattle.numbers.proofs.Laws.{pair-low, pair-high, pair-below, take-bytes, append-bytes}
+use Rattle.state.specs.FlagByte.{nibbleOf, flagByteOf}
+use Rattle.alu.specs.declared.Flags.{Flags}
+use Rattle.state.specs.declared.Core.{Core}
+use Rattle.state_bytes.specs.Bytes.{addressOf, busOf, latchesOf, coreOf, padded, fileOf, tailOf, bytesOf, storedOf}
+use Rattle.state_bytes.specs.Range.{addressInRange, latchesInRange, coreInRange, stateInRange, InRange}
+use Rattle.state_bytes.proofs.Digits.{nibble-le, digits, bits, is-bit, flag-byte-back, flags-back}
+use Rattle.state_bytes.proofs.Steps.{padded-at, padded-length, tail-length}
+
+-- ---- lengths
+pub file-length : (s : List ℕ) → length (fileOf s) ≡ 26
+unfolding fileOf
+file-length s = length-take-le 26 (padded s 26) (omega (arith, padded-length s 26))
+
+pub bytes-length : (xs : List ℕ) (k : Core) → length xs ≡ 26 → length (bytesOf xs k) ≡ 41
+bytes-length xs k e = simp length-append (omega (arith, tail-length k))
+
+pub stored-bytes : (xs : List ℕ) (k : Core) (out : List ℕ) → length out ≡ 41 → storedOf xs k out ≡ bytesOf xs k
+unfolding storedOf
+stored-bytes xs k out e = rw (eq-eqb _ _ e)
+
+-- ---- from the bytes and back
+-- n bytes, from byte a on
+abbrev run : List ℕ → ℕ → ℕ → List ℕ
+run s a zero = []
+run s a (suc n) = byteAt s a ∷ run s (suc a) n
+
+run-is : (s : List ℕ) (n a : ℕ) → length s ≡ a + n → drop a s ≡ run s a n
+run-is s zero a e = drop-of-length-le s {i = a} (omega arith)
+run-is s (suc n) a e = rw (drop-cons s a 0 (omega arith), run-is s n (suc a) (omega arith))
+
+-- three tests that hold together
+pub three : (a b c : Bool) → a && b && c ≡ true → (a ≡ true) × (b ≡ true) × (c ≡ true)
+three true true c h = (refl, refl, h)
+three true false c h = absurd (false≢true h)
+three false b c h = absurd (false≢true h)
+
+-- what is tested of a state in range
+tested : (s : List ℕ) → stateInRange s ≡ true → (length s ≡ 41) × (byteAt s 37 ≤ 15) × (coreInRange (coreOf s) ≡ true)
+unfolding stateInRange
+tested s h =
+    let p = three (eqb (length s) 41) (leb (byteAt s 37) 15) (coreInRange (coreOf s)) h in
+    (eqb-true _ _ (p .0), leb-true _ _ (p .1), p .2)
+
+tail-back : (s : List ℕ) → AllBytes s → byteAt s 37 ≤ 15 → tailOf (coreOf s) ≡ run s 26 15
+unfolding tailOf coreOf addressOf busOf latchesOf
+tail-back s b h =
+    let marks : byteAt s 37 % 16 ≡ byteAt s 37 = omega arith in
+    rw (flag-byte-back (byteAt s 27) (b 27), digits (byteAt s 37), marks, pair-low s b 28, pair-high s b 28, pair-low s b 30, pair-high s b 30)
+    (rw (pair-low s b 32, pair-high s b 32, pair-low s b 34, pair-high s b 34, pair-low s b 39, pair-high s b 39))
+
+-- the file and the core of a state in range give its bytes again
+pub bytes-back : (s : List ℕ) → AllBytes s → stateInRange s ≡ true → bytesOf (fileOf s) (coreOf s) ≡ s
+unfolding fileOf
+bytes-back s b h =
+    let t = tested s h in
+    rw (take-append-le 26 s _ (omega arith), tail-back s b (t .1), ← run-is s 15 26 (t .0)) (take-append-drop 26 s)
+
+-- ---- to the bytes and back
+-- the byte at 26 + j, after the registers
+tail-at : (xs : List ℕ) (k : Core) → length xs ≡ 26 → (j : ℕ) → byteAt (bytesOf xs k) (26 + j) ≡ byteAt (tailOf k) j
+tail-at xs k e j = rw (← e) (getD-append-add xs (tailOf k) j 0)
+
+-- the bytes of a core give it again, whatever the registers before them
+pub core-back : (xs : List ℕ) (k : Core) → length xs ≡ 26 → coreOf (bytesOf xs k) ≡ k
+unfolding coreOf addressOf busOf latchesOf tailOf
+core-back xs k e =
+    let at = tail-at xs k e in
+    let m = bits (k .latches .marked) (k .bus .iack) (k .bus .sync) (k .latches .ics) (nibbleOf (k .latches .marked) (k .bus .iack) (k .bus .sync) (k .latches .ics)) refl in
+    rw (at 0, at 1, at 2, at 3, at 4, at 5, at 6, at 7, at 8, at 9, at 10, at 11, at 12, at 13, at 14)
+    (rw (flags-back (k .flags), mod-add-div (k .address .lc) 256, mod-add-div (k .address .rr) 256, mod-add-div (k .latches .tr) 256, mod-add-div (k .bus .m) 256, mod-add-div (k .latches .modification) 256)
+    (rw (is-bit (k .latches .marked) _ (m .0), is-bit (k .bus .iack) _ (m .1), is-bit (k .bus .sync) _ (m .2), is-bit (k .latches .ics) _ (m .3))))
+
+pub file-back : (xs : List ℕ) (k : Core) → length xs ≡ 26 → fileOf (bytesOf xs k) ≡ xs
+unfolding fileOf
+file-back xs k e = rw append-assoc (take-at xs _ 26 e)
+
+-- ---- in range
+core-true : (k : Core) → InRange k → coreInRange k ≡ true
+unfolding coreInRange addressInRange latchesInRange
+core-true k r =
+    rw (le-leb _ _ (r .lc), le-leb _ _ (r .rr), le-leb _ _ (r .tsr), le-leb _ _ (r .g), le-leb _ _ (r .interrupts)) (go (k .latches .marked) refl)
+  where
+    go : (t : Bool) → k .latches .marked ≡ t → (t || eqb (k .latches .modification) 0) ≡ true
+    go true e = refl
+    go false e = eq-eqb _ _ (r .unmarked e)
+
+marks-le : (xs : List ℕ) (k : Core) → length xs ≡ 26 → byteAt (bytesOf xs k) 37 ≤ 15
+unfolding tailOf
+marks-le xs k e = rw (tail-at xs k e 11) (nibble-le (k .latches .marked) (k .bus .iack) (k .bus .sync) (k .latches .ics))
+
+-- the bytes of a core in range are a state in range: a returned state can be handed in again
+pub bytes-in-range : (xs : List ℕ) (k : Core) → length xs ≡ 26 → InRange k → stateInRange (bytesOf xs k) ≡ true
+unfolding stateInRange
+bytes-in-range xs k e r =
+    rw (eq-eqb _ _ (bytes-length xs k e), le-leb _ _ (marks-le xs k e), core-back xs k e, core-true k r)
+
+-- what is tested of a core in range, and that its wide parts have 16 bits
+pub in-range : (k : Core) → coreInRange k ≡ true → k .bus .m < 65536 → k .latches .tr < 65536 → k .latches .modification < 65536 → InRange k
+unfolding coreInRange addressInRange latchesInRange
+in-range k h m tr modification =
+    let p = and-eq-true-iff (addressInRange (k .address)) (latchesInRange (k .latches)) .0 h in
+    let a = three (leb (k .address .lc) 2047) (leb (k .address .rr) 2047) (leb (k .address .tsr) 7) (p .0) in
+    let l = three (leb (k .latches .g) 7) (leb (k .latches .interrupts) 7) (k .latches .marked || eqb (k .latches .modification) 0) (p .1) in
+    record {
+      lc = leb-true _ _ (a .0);
+      rr = leb-true _ _ (a .1);
+      tsr = leb-true _ _ (a .2);
+      m = m;
+      g = leb-true _ _ (l .0);
+      tr = tr;
+      interrupts = leb-true _ _ (l .1);
+      modification = modification;
+      unmarked = λ e. eqb-true _ _ (rw e at (l .2));
+    }
+
+-- a state in range holds a core in range
+pub core-in-range : (s : List ℕ) → AllBytes s → stateInRange s ≡ true → InRange (coreOf s)
+unfolding coreOf busOf latchesOf
+core-in-range s b h = in-range (coreOf s) (tested s h .2) (pair-below s b 34) (pair-below s b 32) (pair-below s b 39)
+
+-- ---- bytes
+pub file-bytes : (s : List ℕ) → AllBytes s → AllBytes (fileOf s)
+unfolding fileOf
+file-bytes s b = take-bytes 26 (padded s 26) (λ i. rw (padded-at s 26 i) (b i))
+
+all-bytes : (s : List ℕ) → Bytes s → AllBytes s
+all-bytes [] b i = omega arith
+all-bytes (x ∷ s) b zero = b .0
+all-bytes (x ∷ s) b (suc i) = all-bytes s (b .1) i
+
+flag-byte-below : (f : Flags) → flagByteOf f < 256
+unfolding flagByteOf
+flag-byte-below f = omega (arith, nibble-le (f .n) (f .z) (f .v) (f .c), nibble-le (f .nb) (f .zb) (f .c4) (f .c8))
+
+tail-bytes : (k : Core) → InRange k → Bytes (tailOf k)
+unfolding tailOf
+tail-bytes k r =
+    let flags = flag-byte-below (k .flags) in
+    let marks = nibble-le (k .latches .marked) (k .bus .iack) (k .bus .sync) (k .latches .ics) in
+    omega arith
+
+-- the bytes of a core in range are bytes
+pub state-bytes : (xs : List ℕ) (k : Core) → AllBytes xs → InRange k → AllBytes (bytesOf xs k)
+state-bytes xs k b r = append-bytes xs (tailOf k) b (all-bytes (tailOf k) (tail-bytes k r))

@@ -1,0 +1,3 @@
+mod Steps
+mod Digits
+pub mod Laws

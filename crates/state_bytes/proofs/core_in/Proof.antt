@@ -1,0 +1,20 @@
+-- `state_bytes::core_in` meets its contract, by what its callees ensure. Assumes nothing.
+use Rattle.state_bytes.specs.Bytes.{coreOf}
+use borrow.Author.Needs.{needs}
+use Rattle.state_bytes.proofs.core_in.Statement.{statement}
+use Rattle.state_bytes.proofs.core_in.Tie as tie
+
+returns : tie.Need-returns
+unfolding coreOf
+returns c = rw (c .before .before .before .flags-in .ensures, c .before .before .before .before .byte-at .ensures, c .before .before .address-in .ensures, c .before .bus-in .ensures, c .latches-in .ensures)
+
+pub core-in-spec : {M : Type 1} → statement M
+core-in-spec =
+    tie.close
+    (tie.spec
+    (λ c κs. search needs)
+    (λ c κs. search needs)
+    (λ c κs. search needs)
+    (λ c κs. search needs)
+    (λ c κs. search needs)
+    returns)

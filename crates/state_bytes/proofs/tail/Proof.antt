@@ -1,0 +1,27 @@
+-- `state_bytes::tail` meets its contract, by what its callees ensure. Assumes nothing.
+use Rattle.state_bytes.specs.Bytes.{tailOf}
+use borrow.Author.Needs.{needs}
+use Rattle.state_bytes.proofs.tail.Statement.{statement}
+use Rattle.state_bytes.proofs.tail.Tie as tie
+
+returns : tie.Need-returns
+unfolding tailOf
+returns c = rw (c .before .before .nibble .ensures .0, c .before .before .before .before .before .before .before .before .before .before .before .flag-byte .ensures)
+
+pub tail-spec : {M : Type 1} → statement M
+tail-spec =
+    tie.close
+    (tie.spec
+    (λ c κs. search needs)
+    (λ c. search needs)
+    (λ c. search needs)
+    (λ c. search needs)
+    (λ c. search needs)
+    (λ c. search needs)
+    (λ c. search needs)
+    (λ c. search needs)
+    (λ c. search needs)
+    (λ c κs. search needs)
+    (λ c. search needs)
+    (λ c. search needs)
+    returns)
