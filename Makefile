@@ -1,8 +1,11 @@
-# make run: the main job on what the tree has. make test: the gate.
-.PHONY: run test
+# make run: the bench host on every example, or on DECKS="mine.deck ...". make test: the gate. make bench: engine against interpreter.
+.PHONY: run test bench
 
 run:
-	@rt check alu_cases >/dev/null && cat target/log/alu_cases.stdout
+	@host/run $(DECKS)
 
 test:
 	@.ci/run
+
+bench:
+	@tests/compare/bench

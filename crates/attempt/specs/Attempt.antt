@@ -4,7 +4,7 @@ use mathlib.Core.Bool.{Bool, true, false, not}
 use mathlib.Core.List.{List}
 use lib.Bits.{bitOr}
 use lib.Dec.{eqb, ltb}
-use lib.ListN.{length, getD}
+use lib.ListN.{length}
 use Rattle.choose.specs.Ranged.{pick}
 use Rattle.code.specs.Rows.{cyclesOf}
 use Rattle.code.specs.Word.{apartOf}
@@ -14,6 +14,7 @@ use Rattle.checks.specs.Checks.{refusalOf, waitingOf}
 use Rattle.control.specs.Bus.{placed, lines}
 use Rattle.control.specs.Latches.{used}
 use Rattle.control.specs.Next.{inputsOf, addressOf}
+use Rattle.numbers.specs.Numbers.{quadAt}
 use Rattle.rows.specs.Scan.{scanOf, none}
 use Rattle.rows.specs.declared.Outputs.{Outputs}
 use Rattle.rows.specs.declared.Row.{Row}
@@ -75,18 +76,15 @@ resetOf k =
       latches = used (k .latches);
     }
 
--- a word's four bytes, low first
-abbrev pub joined : ℕ → ℕ → ℕ → ℕ → ℕ
-joined a b c d = a + b * 0x100 + c * 0x1_0000 + d * 0x100_0000
-
+-- the word at an address
 unfoldable pub wordAt : List ℕ → ℕ → ℕ
-wordAt ws at = joined (getD ws (at * 4) 0) (getD ws (at * 4 + 1) 0) (getD ws (at * 4 + 2) 0) (getD ws (at * 4 + 3) 0)
+wordAt ws at = quadAt ws (at * 4)
 
 -- "a waiting modification is ORed into its low 16 bits"
 unfoldable pub modifiedOf : ℕ → Latches → ℕ
 modifiedOf w l = pick (l .marked) (w / 0x1_0000 * 0x1_0000 + bitOr (w % 0x1_0000) (l .modification)) w
 
--- "5: LC has no word"; then a code unlisted is 6. A word of 2^22 or more is 2, which a run refuses before its first attempt
+-- 5, "LC has no word"; then 6, "code unlisted". A word of 2^22 or more is 2, which a run refuses before its first attempt
 abbrev pub takenOf : Apart → Outputs → List ℕ → Core → Sample → Ended
 takenOf (Apart.Word w) o xs k sample = triedOf xs k w sample o
 takenOf Apart.OutOfRange o xs k sample = refused xs k 2

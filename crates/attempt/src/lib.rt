@@ -12,11 +12,10 @@ use state::Core;
 use state::Latches;
 use state::Sample;
 ghost use mathlib.Core.Path.{_≡_};
-ghost use Prim.Native.Nat.{_+_, _*_, _≤_};
-ghost use lib.ListN.{length, take};
+ghost use lib.ListN.{take};
 ghost use Rattle.rows.specs.Scan.{none};
 ghost use Rattle.attempt.specs.Effect.{jumpedOf, pairOf, effected, literalEffect, registerEffect, effectOf};
-ghost use Rattle.attempt.specs.Attempt.{outcomeOf, resetOf, joined, wordAt, modifiedOf, ended, executedOf, triedOf, fetchedOf, attemptedOf, outputsOf, attemptOf};
+ghost use Rattle.attempt.specs.Attempt.{outcomeOf, resetOf, modifiedOf, ended, executedOf, triedOf, fetchedOf, outputsOf, attemptOf};
 
 // What an executed instruction does, but for the next address.
 pub struct Effect {
@@ -181,21 +180,6 @@ fn reset(core: Core) -> Core
     }
 }
 
-// A word's four bytes, low first.
-fn joined(a: u8, b: u8, c: u8, d: u8) -> u32
-    ensures { λ r. ⌜ r ≡ joined a b c d ⌝ }
-{
-    a as u32 + b as u32 * 0x100 + c as u32 * 0x1_0000 + d as u32 * 0x100_0000
-}
-
-fn word_at(words: &[u8], at: usize) -> u32
-    requires { ⌜ at * 4 + 4 ≤ length (now words) ⌝ }
-    ensures { λ r. ⌜ r ≡ wordAt (now (words .entry)) at ⌝ }
-{
-    let i = at * 4;
-    joined(words[i], words[i + 1], words[i + 2], words[i + 3])
-}
-
 // The waiting modification is ORed into the low 16 bits.
 fn modified(word: u32, l: Latches) -> u32
     ensures { λ r. ⌜ r ≡ modifiedOf word l ⌝ }
@@ -214,7 +198,7 @@ fn fetched(words: &[u8], o: Outputs, file: &mut [u8; 26], core: Core, sample: Sa
     if words.len() / 4 <= at {
         return leaves(core, 0, 0, 5);
     }
-    let word = word_at(words, at);
+    let word = numbers::quad_at(words, at * 4);
     let l = core.latches;
     let apart = code::taken_apart(modified(word, l));
     match apart {
@@ -222,25 +206,6 @@ fn fetched(words: &[u8], o: Outputs, file: &mut [u8; 26], core: Core, sample: Sa
         Apart::OutOfRange => leaves(core, 0, 0, 2),
         Apart::Unlisted => leaves(core, 0, 0, 6),
     }
-}
-
-// One attempt, given what the rows put out for the word at LC.
-pub fn attempted(
-    words: &[u8],
-    o: Outputs,
-    file: &mut [u8; 26],
-    core: Core,
-    sample: Sample,
-) -> Outcome
-    ensures { λ r. ⌜ ended (now (file .exit)) r ≡ attemptedOf (now (words .entry)) o (now (file .entry)) core sample ⌝ }
-{
-    if sample.reset {
-        return leaves(reset(core), control::placed(11, 0), 1, 0);
-    }
-    if sample.compute {
-        return fetched(words, o, file, core, sample);
-    }
-    leaves(core, control::placed(12, 0), 1, 0)
 }
 
 fn none() -> Outputs
@@ -254,7 +219,7 @@ fn none() -> Outputs
 }
 
 // What the first n rows of the table put out for the word at LC. Without rows nothing is looked at.
-pub fn looked(words: &[u8], table: [Row; 128], n: usize, core: Core, sample: Sample) -> Outputs
+fn looked(words: &[u8], table: [Row; 128], n: usize, core: Core, sample: Sample) -> Outputs
     ensures { λ r. ⌜ r ≡ outputsOf (now (words .entry)) (take n table) core sample ⌝ }
 {
     let at = core.address.lc as usize;
@@ -264,7 +229,7 @@ pub fn looked(words: &[u8], table: [Row; 128], n: usize, core: Core, sample: Sam
     if n == 0 {
         return none();
     }
-    let word = word_at(words, at);
+    let word = numbers::quad_at(words, at * 4);
     rows::over(
         table,
         n,
@@ -282,6 +247,12 @@ pub fn attempt(
 ) -> Outcome
     ensures { λ r. ⌜ ended (now (file .exit)) r ≡ attemptOf (now (words .entry)) (take n table) (now (file .entry)) core sample ⌝ }
 {
-    let o = looked(words, table, n, core, sample);
-    attempted(words, o, file, core, sample)
+    if sample.reset {
+        return leaves(reset(core), control::placed(11, 0), 1, 0);
+    }
+    if sample.compute {
+        let o = looked(words, table, n, core, sample);
+        return fetched(words, o, file, core, sample);
+    }
+    leaves(core, control::placed(12, 0), 1, 0)
 }

@@ -1,55 +1,184 @@
--- Demand 2, first sentence: an attempt bears the marks of what 01's conditions make it, and of nothing else.
+-- Demand 2, first sentence: an attempt is what 01's conditions make it, whole, and shows it by its refusal's number and its request's kind.
 -- Assumes nothing.
-use Prim.Native.Nat.{ℕ, _/_}
-use mathlib.Core.Path.{_≡_, refl}
-use mathlib.Core.List.{List}
+use Prim.Native.Nat.{ℕ, _/_, _<_}
+use mathlib.Core.Path.{_≡_, refl, _∙_, sym}
+use mathlib.Core.Bool.{Bool, true, false, not, _||_, Bool·beq, false≢true}
+use mathlib.Core.List.{List, [], _∷_}
 use native.Mathlib.Omega.{arith}
-use lib.Dec.{eqb, ltb}
+use lib.Dec.{T, eqb, eqb→eq, ltb}
 use lib.ListN.{length}
-use Rattle.code.specs.Word.{apartOf}
+use borrow.Author.Tests.{lt-ltb, ltb-true, eqb-false, ne-eqb}
+use Rattle.choose.specs.Ranged.{pick, ranged}
+use Rattle.choose.specs.Below.{allBelow}
+use Rattle.choose.proofs.Table.{below}
+use Rattle.code.specs.Rows.{classOf, listed, pairsOf, waitsOf, optionsOf}
+use Rattle.code.specs.Word.{topOf, codeOf, codeIn, operandsIn, fieldsIn, apartOf}
 use Rattle.code.specs.declared.Apart.{Apart}
+use Rattle.code.specs.declared.Class.{Class}
 use Rattle.code.specs.declared.Fields.{Fields}
-use Rattle.code.proofs.Words.{WellFormed}
+use Rattle.code.proofs.Words.{is-apart}
 use Rattle.code.proofs.Laws.{apart-well-formed}
-use Rattle.checks.specs.Checks.{refusalOf, waitingOf}
+use Rattle.checks.specs.Checks.{oddOf, ofTwo, refusalOf, waitingOf}
 use Rattle.rows.specs.declared.Outputs.{Outputs}
 use Rattle.rows.specs.declared.Row.{Row}
 use Rattle.state.specs.Range.{InRange, SampleInRange}
 use Rattle.state.specs.declared.Core.{Core}
 use Rattle.state.specs.declared.Sample.{Sample}
-use Rattle.attempt.specs.Attempt.{executedOf, triedOf, wordAt, modifiedOf, takenOf, fetchedOf, attemptedOf, outputsOf, attemptOf}
-use Rattle.attempt_laws.specs.Fate.{Fate, completed, Bears, wordFate, fateOf}
+use Rattle.attempt.specs.Attempt.{Ended, executedOf, triedOf, takenOf, fetchedOf, attemptedOf, outputsOf, attemptOf}
+use Rattle.attempt_laws.specs.Fate.{Fate, refused, waited, reset, compute-low, completed, noCode, oddPair, noOption, mustWait, bIn, aIn, wordFate, takenWord, fateOf, Bears, seen}
 use Rattle.attempt_laws.proofs.Choice.{pick-both}
 use Rattle.attempt_laws.proofs.Range.{executed-request}
 
-module _ (xs : List ℕ) (k : Core) (s : Sample) (h : InRange xs k) (d : SampleInRange s) (o : Outputs) where
-  executed-bears : (w : Fields) → WellFormed w → Bears (executedOf xs k w s o) (completed (w .code))
-  unfolding executedOf
-  executed-bears w f = (refl, omega (arith, executed-request xs k s o w h d f), refl)
+equal-tests : (a b : Bool) → T (Bool·beq a b) → a ≡ b
+equal-tests true true t = refl
+equal-tests true false t = absurd t
+equal-tests false true t = absurd t
+equal-tests false false t = refl
 
-  tried-bears : (w : Fields) → WellFormed w → Bears (triedOf xs k w s o) (wordFate (Apart.Word w) s)
+-- ---- the engine's tables against 01's lists: two tests over the 256 codes, which the checker computes
+
+-- the number by 01's lists
+abbrev numberOf : ℕ → ℕ → ℕ → ℕ
+numberOf code b a = pick (noCode code) 6 (pick (oddPair code b a) 7 (pick (noOption code b) 8 0))
+
+-- and by the engine's class and tables
+abbrev numberIn : Class → ℕ → ℕ → ℕ → ℕ
+numberIn Class.Unlisted code b a = 6
+numberIn Class.Jump code b a = 0
+numberIn Class.Conditional code b a = 0
+numberIn Class.Literal code b a = 0
+numberIn Class.Register code b a = ofTwo code b a
+
+abbrev agree : ℕ → ℕ → ℕ → Bool
+agree code b a = eqb (numberIn (classOf code) code b a) (numberOf code b a)
+
+-- for every code and designators
+numbers-equal : (code b a : ℕ) → code < 256 → b < 16 → a < 16 → numberIn (classOf code) code b a ≡ numberOf code b a
+unfolding classOf ranged ofTwo oddOf pairsOf optionsOf noCode oddPair noOption
+numbers-equal code b a h i j =
+    let codes = below 256 (λ c. allBelow 16 (λ x. allBelow 16 (agree c x))) tt code h in
+    eqb→eq (numberIn (classOf code) code b a) (numberOf code b a) (below 16 (agree code b) (below 16 (λ x. allBelow 16 (agree code x)) codes b i) a j)
+
+-- for every code and lines
+waits-equal : (code : ℕ) → code < 256 → (s : Sample) → waitingOf (codeOf code) s ≡ mustWait code (s .reply) (s .busy)
+unfolding waitingOf waitsOf codeOf classOf ranged mustWait
+waits-equal code h s = go (s .reply) (s .busy)
+  where
+    waits : ℕ → Bool → Bool → Bool
+    waits code reply busy = ranged (waitsOf (codeOf code)) ((1, false) ∷ (2, reply || busy) ∷ []) (not reply)
+
+    test : Bool → Bool → ℕ → Bool
+    test reply busy code = Bool·beq (waits code reply busy) (mustWait code reply busy)
+
+    go : (reply busy : Bool) → waits code reply busy ≡ mustWait code reply busy
+    go true true = equal-tests _ _ (below 256 (test true true) tt code h)
+    go true false = equal-tests _ _ (below 256 (test true false) tt code h)
+    go false true = equal-tests _ _ (below 256 (test false true) tt code h)
+    go false false = equal-tests _ _ (below 256 (test false false) tt code h)
+
+-- the engine's number of a listed word is that of its class
+refusal-in : (c : Class) (word : ℕ) → listed c ≡ true → refusalOf (codeIn c (topOf word)) (operandsIn c word) ≡ numberIn c (topOf word) (bIn word) (aIn word)
+unfolding refusalOf operandsIn
+refusal-in Class.Unlisted word l = absurd (false≢true l)
+refusal-in Class.Jump word l = refl
+refusal-in Class.Conditional word l = refl
+refusal-in Class.Literal word l = refl
+refusal-in Class.Register word l = refl
+
+unlisted-in : (c : Class) (code b a : ℕ) → listed c ≡ false → numberIn c code b a ≡ 6
+unlisted-in Class.Unlisted code b a l = refl
+unlisted-in Class.Jump code b a l = absurd (false≢true (sym l))
+unlisted-in Class.Conditional code b a l = absurd (false≢true (sym l))
+unlisted-in Class.Literal code b a l = absurd (false≢true (sym l))
+unlisted-in Class.Register code b a l = absurd (false≢true (sym l))
+
+-- the three refusals as one number
+by-number : (u p q : Bool) (f : Fate)
+    → pick u (refused 6) (pick p (refused 7) (pick q (refused 8) f))
+    ≡ pick (eqb (pick u 6 (pick p 7 (pick q 8 0))) 0) f (refused (pick u 6 (pick p 7 (pick q 8 0))))
+by-number true p q f = refl
+by-number false true q f = refl
+by-number false false true f = refl
+by-number false false false f = refl
+
+-- ---- each part of an attempt
+
+-- two choices by one test, which each arm may use
+pick-known : {A B : Type 0} (P : A → B → Type 0) (t : Bool) (a b : A) (x y : B)
+    → (t ≡ true → P a x) → (t ≡ false → P b y) → P (pick t a b) (pick t x y)
+pick-known P true a b x y p q = p refl
+pick-known P false a b x y p q = q refl
+
+module _ (xs : List ℕ) (k : Core) (s : Sample) (o : Outputs) where
+  tried-bears : (word n : ℕ) (t : Bool) (w : Fields) → apartOf word ≡ Apart.Word w → refusalOf (w .code) (w .operands) ≡ n → waitingOf (w .code) s ≡ t
+      → Bears word xs k s o (triedOf xs k w s o) (pick (eqb n 0) (pick t waited completed) (refused n))
   unfolding triedOf
-  tried-bears w f =
-      pick-both Bears (eqb (refusalOf (w .code) (w .operands)) 0) _ _ _ _
-      (pick-both Bears (waitingOf (w .code) s) _ _ _ _ (refl, refl, refl) (executed-bears w f))
-      (refl, refl)
+  tried-bears word n t w e p q =
+      rw (p, q)
+      (pick-known (Bears word xs k s o) (eqb n 0) _ _ _ _
+      (λ z. pick-both (Bears word xs k s o) t _ _ _ _ refl (w, e, refl))
+      (λ z. (eqb-false n 0 z, refl)))
 
-  taken-bears : (word : ℕ) (x : Apart) → apartOf word ≡ x → Bears (takenOf x o xs k s) (wordFate x s)
-  taken-bears word (Apart.Word w) e = tried-bears w (apart-well-formed word w e)
-  taken-bears word Apart.OutOfRange e = (refl, refl)
-  taken-bears word Apart.Unlisted e = (refl, refl)
+  -- a word below 2^22
+  word-bears : (word : ℕ) → word < 0x40_0000 → (l : Bool) → listed (classOf (topOf word)) ≡ l
+      → (n : ℕ) → numberIn (classOf (topOf word)) (topOf word) (bIn word) (aIn word) ≡ n
+      → Bears word xs k s o (takenOf (pick l (Apart.Word (fieldsIn (classOf (topOf word)) word)) Apart.Unlisted) o xs k s)
+      (pick (eqb n 0) (pick (mustWait (topOf word) (s .reply) (s .busy)) waited completed) (refused n))
+  unfolding fieldsIn codeOf
+  word-bears word h true l n e =
+      tried-bears word n _ (fieldsIn (classOf (topOf word)) word) (is-apart word h l) (refusal-in (classOf (topOf word)) word l ∙ e)
+      (waits-equal (topOf word) (omega arith) s)
+  word-bears word h false l n e =
+      rw (sym e ∙ unlisted-in (classOf (topOf word)) (topOf word) (bIn word) (aIn word) l) ((λ z. omega arith), refl)
 
-  attempted-bears : (ws : List ℕ) → Bears (attemptedOf ws o xs k s) (fateOf ws k s)
+  taken-bears : (word : ℕ) → Bears word xs k s o (takenOf (apartOf word) o xs k s) (wordFate word s)
+  unfolding apartOf wordFate
+  taken-bears word =
+      rw (by-number (noCode (topOf word)) (oddPair (topOf word) (bIn word) (aIn word)) (noOption (topOf word) (bIn word)))
+      (pick-known (λ (x : Apart) (f : Fate). Bears word xs k s o (takenOf x o xs k s) f) (ltb word 0x40_0000) _ _ _ _
+      (λ h. word-bears word (ltb-true word 0x40_0000 h) _ refl _ (numbers-equal (topOf word) (bIn word) (aIn word) (omega arith) (omega arith) (omega arith)))
+      (λ h. ((λ z. omega arith), refl)))
+
+  attempted-bears : (ws : List ℕ) → Bears (takenWord ws k) xs k s o (attemptedOf ws o xs k s) (fateOf ws k s)
   unfolding attemptedOf fetchedOf fateOf
   attempted-bears ws =
-      pick-both Bears (s .reset) _ _ _ _ (refl, refl, refl)
-      (pick-both Bears (s .compute) _ _ _ _
-      (pick-both Bears (ltb (k .address .lc) (length ws / 4)) _ _ _ _
-      (taken-bears (modifiedOf (wordAt ws (k .address .lc)) (k .latches)) _ refl)
-      (refl, refl))
-      (refl, refl, refl))
+      let P = Bears (takenWord ws k) xs k s o in
+      pick-both P (s .reset) _ _ _ _ refl
+      (pick-both P (s .compute) _ _ _ _
+      (pick-both P (ltb (k .address .lc) (length ws / 4)) _ _ _ _ (taken-bears (takenWord ws k)) ((λ z. omega arith), refl))
+      refl)
 
-pub attempt-fate : (ws : List ℕ) (rs : List Row) (xs : List ℕ) (k : Core) (s : Sample) → InRange xs k → SampleInRange s
-    → Bears (attemptOf ws rs xs k s) (fateOf ws k s)
-unfolding attemptOf
-attempt-fate ws rs xs k s h d = attempted-bears xs k s h d (outputsOf ws rs k s) ws
+  -- a fate is seen by the refusal's number and the request's kind
+  seen-bears : (word : ℕ) → InRange xs k → SampleInRange s → (e : Ended) (f : Fate) → Bears word xs k s o e f → seen e ≡ f
+  unfolding seen ranged executedOf
+  seen-bears word h d e (refused n) (z, q) = rw (q, ne-eqb n 0 z)
+  seen-bears word h d e waited q = rw q
+  seen-bears word h d e reset q = rw q
+  seen-bears word h d e compute-low q = rw q
+  seen-bears word h d e completed (w, a, q) =
+      let request = executed-request xs k s o w h d (apart-well-formed word w a) in
+      rw (q, lt-ltb (executedOf xs k w s o .outcome .request / 65536) 10 (omega arith))
+
+-- ---- the laws
+
+module _ (ws : List ℕ) (rs : List Row) (xs : List ℕ) (k : Core) (s : Sample) where
+  -- an attempt is what 01's conditions make it, whatever is handed in
+  pub attempt-fate : Bears (takenWord ws k) xs k s (outputsOf ws rs k s) (attemptOf ws rs xs k s) (fateOf ws k s)
+  unfolding attemptOf
+  attempt-fate = attempted-bears xs k s (outputsOf ws rs k s) ws
+
+  -- and "exactly": what is seen of it is that fate and no other
+  pub attempt-seen : InRange xs k → SampleInRange s → seen (attemptOf ws rs xs k s) ≡ fateOf ws k s
+  attempt-seen h d = seen-bears xs k s (outputsOf ws rs k s) (takenWord ws k) h d (attemptOf ws rs xs k s) (fateOf ws k s) attempt-fate
+
+-- 01, "Checked by hand": "Word A232: 7. A222: executed. 7800, AD32, AC22: 6. ISB with b 4: 8; b 3: executed", whatever the sample
+pub by-hand : (s : Sample)
+    → (wordFate 0xA232 s ≡ refused 7)
+    × (wordFate 0xA222 s ≡ completed)
+    × (wordFate 0x7800 s ≡ refused 6)
+    × (wordFate 0xAD32 s ≡ refused 6)
+    × (wordFate 0xAC22 s ≡ refused 6)
+    × (wordFate 0xE440 s ≡ refused 8)
+    × (wordFate 0xE430 s ≡ completed)
+unfolding wordFate noCode oddPair noOption mustWait
+by-hand s = (refl, refl, refl, refl, refl, refl, refl)

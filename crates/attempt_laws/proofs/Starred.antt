@@ -62,7 +62,7 @@ pub all : List Case → Bool
 all [] = true
 all (k ∷ ks) = holds k && all ks
 
--- codes: A1 AB, B1 SB, B9 SBC, 99 TCB, A3 AW, DF SRW, 8D SLB; RC stands at place 22 of the file, GB at 11
+-- codes: A1 AB, B1 SB, B9 SBC, 99 TCB, A3 AW, DF SRW, 8D SLB; GB is the last of G0-GB, at place 11 of the file
 pub cases : List Case
 cases =
     works 0xA1 0x7F 0x01 false 0x80 ((isC4, true) ∷ (isC8, false) ∷ (isN, true) ∷ (isV, true) ∷ (isC, false) ∷ []) ∷
@@ -75,7 +75,7 @@ cases =
     works 0xA3 0x7FFF 0x0001 false 0x8000 ((isV, true) ∷ []) ∷
     works 0xDF 0x0000 0x0101 false 0x0080 ((isC, true) ∷ (isN, true) ∷ []) ∷
     works 0x8D 0x00 0x40 false 0x80 ((isV, false) ∷ []) ∷
-    names 6 0 22 ∷
+    names 6 0 (slotOf 0 0xC) ∷
     names 5 1 11 ∷
     []
 

@@ -1,46 +1,115 @@
 -- What an attempt is: "a refusal, a wait, a RESET or a COMPUTE-low one exactly when 01 says so, and every other attempt completes its
--- microinstruction".
-use Prim.Native.Nat.{ℕ, _*_, _/_, _≤_}
+-- microinstruction". The conditions are 01's own lists, of the word's bits: they use none of the engine's tables.
+use Prim.Native.Nat.{ℕ, _*_, _/_, _%_}
 use mathlib.Core.Path.{_≡_}
-use mathlib.Core.List.{List}
-use lib.Dec.{eqb, ltb}
+use mathlib.Core.Bool.{Bool, not, _&&_, _||_}
+use mathlib.Core.List.{List, [], _∷_}
+use lib.Dec.{eqb, leb, ltb}
 use lib.ListN.{length}
-use Rattle.choose.specs.Ranged.{pick}
-use Rattle.code.specs.Rows.{cyclesOf}
-use Rattle.code.specs.Word.{apartOf}
+use Rattle.choose.specs.Ranged.{pick, ranged}
+use Rattle.code.specs.Word.{topOf, apartOf}
 use Rattle.code.specs.declared.Apart.{Apart}
-use Rattle.checks.specs.Checks.{refusalOf, waitingOf}
+use Rattle.code.specs.declared.Fields.{Fields}
+use Rattle.rows.specs.declared.Outputs.{Outputs}
 use Rattle.state.specs.declared.Core.{Core}
 use Rattle.state.specs.declared.Sample.{Sample}
-use Rattle.attempt.specs.Attempt.{Ended, wordAt, modifiedOf}
+use Rattle.attempt.specs.Attempt.{Ended, ended, outcomeOf, executedOf, resetOf, wordAt, modifiedOf}
 
 pub data Fate : Type 0 where
   refused : ℕ → Fate
   waited : Fate
   reset : Fate
   compute-low : Fate
-  completed : (code : ℕ) → Fate
+  completed : Fate
 
--- of a listed word: 6 (AC), 7, 8; then waiting; else it completes
-abbrev pub wordFate : Apart → Sample → Fate
-wordFate Apart.OutOfRange s = refused 2
-wordFate Apart.Unlisted s = refused 6
-wordFate (Apart.Word w) s =
-    pick (eqb (refusalOf (w .code) (w .operands)) 0) (pick (waitingOf (w .code) s) waited (completed (w .code))) (refused (refusalOf (w .code) (w .operands)))
+-- ---- 01's lists of codes
 
--- 01's conditions, in its order: RESET, COMPUTE low, no word at LC, then the word after the modification
+-- a range of codes, both ends in it
+abbrev pub within : ℕ → ℕ → ℕ → Bool
+within first last code = leb first code && leb code last
+
+abbrev pub odd : ℕ → Bool
+odd n = eqb (n % 2) 1
+
+-- 6, "code unlisted, or AC": "unlisted are 78-7F, AD, D4-D7 and E8-EB"
+unfoldable pub noCode : ℕ → Bool
+noCode code =
+    within 0x78 0x7F code || eqb code 0xAD || within 0xD4 0xD7 code || within 0xE8 0xEB code ||
+    eqb code 0xAC
+
+-- the two-cycle codes 82-DF have bit 1 set; IW is E2 and E3, ISW E6 and E7
+abbrev pub twoCycle : ℕ → Bool
+twoCycle code = within 0x82 0xDF code && odd (code / 2)
+
+abbrev pub inputWord : ℕ → Bool
+inputWord code = within 0xE2 0xE3 code || within 0xE6 0xE7 code
+
+-- 7, "tests a and b for the two-cycle codes 82-DF, and a alone for IW and ISW"
+unfoldable pub oddPair : ℕ → ℕ → ℕ → Bool
+oddPair code b a =
+    (twoCycle code && (odd a || odd b)) ||
+    (inputWord code && odd a)
+
+-- 8, "IB and IW take b 0-7, ISB 0-3": IB and IW are E0-E3, ISB E4 and E5
+unfoldable pub noOption : ℕ → ℕ → Bool
+noOption code b =
+    (within 0xE0 0xE3 code && ltb 7 b) ||
+    (within 0xE4 0xE5 code && ltb 3 b)
+
+-- "R, W, RA, WA and the F0-F7 codes wait if REPLY or BUSY is high; IB, IW, OB, OW wait if REPLY is low": the first are F0-FB, OB and OW FC and FD
+unfoldable pub mustWait : ℕ → Bool → Bool → Bool
+mustWait code reply busy =
+    (within 0xF0 0xFB code && (reply || busy)) ||
+    ((within 0xE0 0xE3 code || within 0xFC 0xFD code) && not reply)
+
+-- ---- the fate
+
+-- bits 7-4 and 3-0 of a word; topOf is bits 15-8
+abbrev pub bIn : ℕ → ℕ
+bIn word = word / 0x10 % 0x10
+
+abbrev pub aIn : ℕ → ℕ
+aIn word = word % 0x10
+
+-- "at each attempt 5, 6, 7, 8"; "Then refusals, then waiting, then execution". A word of 2^22 or more is 2, which a run refuses before its first attempt
+unfoldable pub wordFate : ℕ → Sample → Fate
+wordFate word s =
+    pick (ltb word 0x40_0000)
+    (pick (noCode (topOf word)) (refused 6)
+    (pick (oddPair (topOf word) (bIn word) (aIn word)) (refused 7)
+    (pick (noOption (topOf word) (bIn word)) (refused 8)
+    (pick (mustWait (topOf word) (s .reply) (s .busy)) waited
+    completed))))
+    (refused 2)
+
+-- "the word at LC is taken and a waiting modification is ORed into its low 16 bits"
+abbrev pub takenWord : List ℕ → Core → ℕ
+takenWord ws k = modifiedOf (wordAt ws (k .address .lc)) (k .latches)
+
+-- "RESET high: ..; Else COMPUTE low: ..; Else the word at LC is taken", or 5, "LC has no word". A word is four bytes
 unfoldable pub fateOf : List ℕ → Core → Sample → Fate
 fateOf ws k s =
     pick (s .reset) reset
     (pick (s .compute)
-    (pick (ltb (k .address .lc) (length ws / 4)) (wordFate (apartOf (modifiedOf (wordAt ws (k .address .lc)) (k .latches))) s) (refused 5))
+    (pick (ltb (k .address .lc) (length ws / 4))
+    (wordFate (takenWord ws k) s)
+    (refused 5))
     compute-low)
 
--- the marks that an outcome bears: a refusal its number; RESET, COMPUTE low and a wait their kind and one microcycle; a completed attempt a kind from 0 to 9
--- and the microcycles of its code
-abbrev pub Bears : Ended → Fate → Type 0
-Bears e (refused n) = (e .outcome .refusal ≡ n) × (e .outcome .cycles ≡ 0)
-Bears e waited = (e .outcome .refusal ≡ 0) × (e .outcome .request ≡ 10 * 65536) × (e .outcome .cycles ≡ 1)
-Bears e reset = (e .outcome .refusal ≡ 0) × (e .outcome .request ≡ 11 * 65536) × (e .outcome .cycles ≡ 1)
-Bears e compute-low = (e .outcome .refusal ≡ 0) × (e .outcome .request ≡ 12 * 65536) × (e .outcome .cycles ≡ 1)
-Bears e (completed code) = (e .outcome .refusal ≡ 0) × (e .outcome .request / 65536 ≤ 9) × (e .outcome .cycles ≡ cyclesOf code)
+-- ---- what the attempt gives then, whole: the file, the state, the request, the microcycles and the refusal's number
+
+-- "Numbers 5-8 return the state before the refused attempt"; "A wait costs 1, changes nothing and has kind 10"; RESET "kind 11", COMPUTE low "nothing
+-- changes (kind 12). Both cost 1"; and else the taken word is executed, with the rows' outputs o
+abbrev pub Bears : ℕ → List ℕ → Core → Sample → Outputs → Ended → Fate → Type 0
+Bears word xs k s o e (refused n) = (n ≡ 0 → ⊥) × (e ≡ ended xs (outcomeOf k 0 0 n))
+Bears word xs k s o e waited = e ≡ ended xs (outcomeOf k (10 * 65536) 1 0)
+Bears word xs k s o e reset = e ≡ ended xs (outcomeOf (resetOf k) (11 * 65536) 1 0)
+Bears word xs k s o e compute-low = e ≡ ended xs (outcomeOf k (12 * 65536) 1 0)
+Bears word xs k s o e completed = (w : Fields) × (apartOf word ≡ Apart.Word w) × (e ≡ executedOf xs k w s o)
+
+-- the fate that a caller sees, from the refusal's number and the request's kind: a completed attempt has refusal 0 and a kind from 0 to 9
+unfoldable pub seen : Ended → Fate
+seen e =
+    pick (eqb (e .outcome .refusal) 0)
+    (ranged (e .outcome .request / 65536) ((10, completed) ∷ (11, waited) ∷ (12, reset) ∷ []) compute-low)
+    (refused (e .outcome .refusal))

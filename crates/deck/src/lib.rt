@@ -5,7 +5,7 @@ ghost use mathlib.Core.Bool.{true};
 ghost use Prim.Native.Nat.{_+_, _≤_};
 ghost use lib.ListN.{length};
 ghost use Rattle.deck.specs.Sections.{afterOf, layoutOf, wholeOf, sectionOf, wordsPart, rowsPart, statePart, samplesPart};
-ghost use Rattle.deck.specs.Elements.{wordAt, sampleAt};
+ghost use Rattle.deck.specs.Elements.{sampleAt};
 ghost use Rattle.deck.specs.Ranges.{everyQuad, wordsInRange, rowsPartInRange, samplesInRange, refusalOf};
 
 // Where the sections after the words start, each at its count, and where the last one ends.
@@ -91,16 +91,7 @@ pub fn samples(deck: &[u8]) -> &[u8]
     section(deck, l.samples, 4)
 }
 
-// What is missing reads as 0, in a word and in a sample; the test keeps i * 4 from wrapping.
-pub fn word(part: &[u8], i: usize) -> u32
-    ensures { λ r. ⌜ r ≡ wordAt (now (part .entry)) i ⌝ }
-{
-    if i <= part.len() / 4 {
-        return numbers::quad_at(part, i * 4);
-    }
-    0
-}
-
+// What is missing reads as 0; the test keeps i * 4 from wrapping.
 pub fn sample(part: &[u8], i: usize) -> Sample
     ensures { λ r. ⌜ r ≡ sampleAt (now (part .entry)) i ⌝ }
 {

@@ -5,15 +5,6 @@ use mathlib.Core.List.{List}
 use lib.Dec.{ltb, leb}
 use lib.ListN.{getD, set}
 use Rattle.alu.specs.Cycle.{choice}
-use Rattle.state.specs.declared.Core.{Core}
-
--- the whole state: the file, and the rest
-pub record State : Type 0 where
-  pub file : List ℕ
-  pub core : Core
-
-abbrev pub wholeOf : List ℕ → Core → State
-wholeOf xs k = record { file = xs; core = k }
 
 -- G0-GB stand at 0-11; "GC-GF are RC-RF", at 22-25
 abbrev pub gSlot : ℕ → ℕ

@@ -1,6 +1,6 @@
 -- `attempt::fetched` meets its contract: no word, or the word taken apart.
 use borrow.Author.Tests.{lt-ltb, le-ltb}
-use Rattle.attempt.specs.Attempt.{fetchedOf}
+use Rattle.attempt.specs.Attempt.{wordAt, fetchedOf}
 use borrow.Author.Needs.{needs}
 use Rattle.attempt.proofs.fetched.Statement.{statement}
 use Rattle.attempt.proofs.fetched.Tie as tie
@@ -15,8 +15,11 @@ returns : tie.Need-returns
 unfolding fetchedOf
 returns c = rw (le-ltb _ _ (c .before .if1 .taken), c .leaves .ensures)
 
-word-at-requires : tie.Need-word-at-requires
-word-at-requires c κs = search needs
+mul-quad-at : tie.Need-mul-quad-at
+mul-quad-at c = search needs
+
+quad-at-requires : tie.Need-quad-at-requires
+quad-at-requires c κs = search needs
 
 modified-requires : tie.Need-modified-requires
 modified-requires c κs = search needs
@@ -43,16 +46,16 @@ leaves-requires-3 : tie.Need-leaves-requires-3
 leaves-requires-3 c κs = search needs
 
 returns-2 : tie.Need-returns-2
-unfolding fetchedOf
-returns-2 c = rw (lt-ltb _ _ (c .before .before .before .before .before .before .before .before .before .if1 .left), ← c .before .before .before .before .before .before .before .before .word-at .ensures, ← c .before .before .before .before .before .before .modified .ensures, ← c .before .before .before .before .before .taken-apart .ensures, c .before .before .before .apart .given .1) (c .tried .ensures)
+unfolding wordAt fetchedOf
+returns-2 c = rw (lt-ltb _ _ (c .before .before .before .before .before .before .before .before .before .if1 .left), ← c .before .before .before .before .before .before .before .before .quad-at .ensures, ← c .before .before .before .before .before .before .modified .ensures, ← c .before .before .before .before .before .taken-apart .ensures, c .before .before .before .apart .given .1) (c .tried .ensures)
 
 returns-3 : tie.Need-returns-3
-unfolding fetchedOf
-returns-3 c = rw (lt-ltb _ _ (c .before .before .before .before .before .before .before .if1 .left), ← c .before .before .before .before .before .before .word-at .ensures, ← c .before .before .before .before .modified .ensures, ← c .before .before .before .taken-apart .ensures, c .before .enum-told .given .1, c .leaves2 .ensures)
+unfolding wordAt fetchedOf
+returns-3 c = rw (lt-ltb _ _ (c .before .before .before .before .before .before .before .if1 .left), ← c .before .before .before .before .before .before .quad-at .ensures, ← c .before .before .before .before .modified .ensures, ← c .before .before .before .taken-apart .ensures, c .before .enum-told .given .1, c .leaves2 .ensures)
 
 returns-4 : tie.Need-returns-4
-unfolding fetchedOf
-returns-4 c = rw (lt-ltb _ _ (c .before .before .before .before .before .before .before .if1 .left), ← c .before .before .before .before .before .before .word-at .ensures, ← c .before .before .before .before .modified .ensures, ← c .before .before .before .taken-apart .ensures, c .before .enum-told2 .given .1, c .leaves3 .ensures)
+unfolding wordAt fetchedOf
+returns-4 c = rw (lt-ltb _ _ (c .before .before .before .before .before .before .before .if1 .left), ← c .before .before .before .before .before .before .quad-at .ensures, ← c .before .before .before .before .modified .ensures, ← c .before .before .before .taken-apart .ensures, c .before .enum-told2 .given .1, c .leaves3 .ensures)
 
 pub fetched-spec : {M : Type 1} → statement M
 fetched-spec =
@@ -61,7 +64,8 @@ fetched-spec =
     cast-at
     leaves-requires
     returns
-    word-at-requires
+    mul-quad-at
+    quad-at-requires
     modified-requires
     taken-apart-requires
     enum-known-apart

@@ -1,7 +1,7 @@
 -- `attempt::looked` meets its contract: no word, no rows, or the scan.
 use mathlib.Core.Path.{_∙_, sym}
 use borrow.Author.Tests.{lt-ltb, le-ltb}
-use Rattle.attempt.specs.Attempt.{outputsOf}
+use Rattle.attempt.specs.Attempt.{wordAt, outputsOf}
 use Rattle.rows.proofs.Laws.{scan-none}
 use borrow.Author.Needs.{needs}
 use Rattle.attempt.proofs.looked.Statement.{statement}
@@ -24,8 +24,11 @@ returns-2 : tie.Need-returns-2
 unfolding outputsOf
 returns-2 c = rw (lt-ltb _ _ (c .before .before .if1 .left), c .before .if2 .taken) (c .none2 .ensures ∙ sym (scan-none _))
 
-word-at-requires : tie.Need-word-at-requires
-word-at-requires c κs = search needs
+mul-quad-at : tie.Need-mul-quad-at
+mul-quad-at c = search needs
+
+quad-at-requires : tie.Need-quad-at-requires
+quad-at-requires c κs = search needs
 
 inputs-requires : tie.Need-inputs-requires
 inputs-requires c κs = search needs
@@ -34,8 +37,8 @@ over-requires : tie.Need-over-requires
 over-requires c κs = search needs
 
 returns-3 : tie.Need-returns-3
-unfolding outputsOf
-returns-3 c = rw (lt-ltb _ _ (c .before .before .before .before .if1 .left), ← c .before .before .word-at .ensures, ← c .before .inputs .ensures) (c .over .ensures)
+unfolding wordAt outputsOf
+returns-3 c = rw (lt-ltb _ _ (c .before .before .before .before .if1 .left), ← c .before .before .quad-at .ensures, ← c .before .inputs .ensures) (c .over .ensures)
 
 pub looked-spec : {M : Type 1} → statement M
 looked-spec =
@@ -46,7 +49,8 @@ looked-spec =
     returns
     none-requires-2
     returns-2
-    word-at-requires
+    mul-quad-at
+    quad-at-requires
     inputs-requires
     over-requires
     returns-3)

@@ -1,0 +1,66 @@
+-- What the host is told of an accepted deck: the answer, the counts and the places.
+-- Assumes nothing.
+use mathlib.Core.Path.{_≡_, refl, ap}
+use mathlib.Core.List.{List}
+use Prim.Native.Nat.{ℕ, zero, suc, _*_, _/_, _<_, _≤_}
+use native.Mathlib.Omega.{arith}
+use lib.ListN.{length, getD}
+use Rattle.deck.specs.Ranges.{refusalOf}
+use Rattle.deck.specs.Sections.{layoutOf, wordsPart, rowsPart, statePart, samplesPart}
+use Rattle.deck.proofs.Laws.{accepted, section-bytes, rows-in-range, word-below}
+use Rattle.engine.specs.Host.{deckRun, hostOf}
+use Rattle.engine.specs.Run.{samplesFrom}
+use Rattle.engine.proofs.Hosts.{answers}
+use Rattle.attempt.specs.Attempt.{wordAt}
+use Rattle.numbers.specs.Numbers.{AllBytes}
+use Rattle.run_laws.specs.Laws.{WordsInRange, Number}
+use Rattle.run_laws.proofs.Again.{state-in-range, samples-in-range}
+use Rattle.run_laws.proofs.Answer.{run-counts, run-number}
+use Rattle.run_laws.proofs.Places.{run-places}
+
+-- ---- what an accepted deck gives the run
+
+samples-length : (s : List ℕ) (n i : ℕ) → length (samplesFrom s i n) ≡ n
+unfolding samplesFrom
+samples-length s zero i = refl
+samples-length s (suc n) i = ap suc (samples-length s n (suc i))
+
+module _ (deck requests state : List ℕ) (h : refusalOf deck (length requests) (length state) ≡ 0) where
+  words-in-range : WordsInRange (wordsPart deck)
+  unfolding wordAt
+  words-in-range = word-below (wordsPart deck) (accepted deck (length requests) (length state) h .words)
+
+  -- "at each attempt 5, 6, 7, 8": an accepted deck's answer is 0 or one of these
+  pub host-number : AllBytes deck → Number (hostOf deck requests state .report .answer)
+  unfolding deckRun
+  host-number b =
+      let a = accepted deck (length requests) (length state) h in
+      let l = layoutOf deck in
+      rw (← answers deck requests state h (deckRun deck requests) refl)
+      (run-number _ _ words-in-range (rows-in-range (rowsPart deck) (a .rows) .1)
+      _ (samples-in-range (samplesPart deck) (section-bytes deck (l .samples) 4 b) (a .samples) (length (samplesPart deck) / 4) 0 (omega arith))
+      _ (state-in-range (statePart deck) (section-bytes deck (l .state) 41 b) (a .state))
+      refl)
+
+  -- 0, "all samples used"
+  pub host-full : hostOf deck requests state .report .answer ≡ 0 → hostOf deck requests state .report .attempts ≡ length (samplesPart deck) / 4
+  unfolding deckRun
+  host-full =
+      rw (← answers deck requests state h (deckRun deck requests) refl)
+      (λ z. omega (arith, run-counts _ _ _ _ refl .full z, samples-length (samplesPart deck) (length (samplesPart deck) / 4) 0))
+
+  -- "the counts up to" the refused attempt: fewer attempts than samples
+  pub host-short : (hostOf deck requests state .report .answer ≡ 0 → ⊥)
+      → hostOf deck requests state .report .attempts < length (samplesPart deck) / 4
+  unfolding deckRun
+  host-short =
+      rw (← answers deck requests state h (deckRun deck requests) refl)
+      (λ z. omega (arith, run-counts _ _ _ _ refl .short z, samples-length (samplesPart deck) (length (samplesPart deck) / 4) 0))
+
+  -- "the places of earlier attempts are written, the others are untouched"
+  pub host-places : (length (hostOf deck requests state .requests) ≡ length requests)
+      × ((i d : ℕ) → hostOf deck requests state .report .attempts * 4 ≤ i → getD (hostOf deck requests state .requests) i d ≡ getD requests i d)
+  unfolding deckRun
+  host-places =
+      rw (← answers deck requests state h (deckRun deck requests) refl)
+      (let p = run-places _ _ _ _ in (p .size, p .past))

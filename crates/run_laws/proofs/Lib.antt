@@ -1,0 +1,6 @@
+pub mod Range
+pub mod Again
+pub mod Answer
+pub mod Places
+pub mod Pieces
+pub mod Hosts

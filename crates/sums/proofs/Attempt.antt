@@ -1,0 +1,155 @@
+-- One attempt at a step's word: fetched, taken apart, not refused, not held, executed. Assumes nothing.
+use Prim.Native.Nat.{ℕ, _+_, _*_, _/_, _%_, _<_, _≤_}
+use mathlib.Core.Path.{_≡_, refl}
+use mathlib.Core.Bool.{Bool, true, false}
+use mathlib.Core.List.{List, []}
+use native.Mathlib.Omega.{arith}
+use lib.Dec.{eqb, ltb}
+use lib.ListN.{length}
+use borrow.Author.Tests.{lt-ltb, le-ltb}
+use Rattle.alu.specs.Cycle.{bit}
+use Rattle.alu.specs.declared.Flags.{Flags}
+use Rattle.attempt.specs.Attempt.{Ended, ended, outcomeOf, executedOf, triedOf, modifiedOf, fetchedOf, attemptedOf, outputsOf, attemptOf, wordAt}
+use Rattle.attempt.specs.Effect.{registerEffect, effectOf}
+use Rattle.checks.specs.Checks.{oddOf, ofTwo, refusalOf}
+use Rattle.choose.specs.Ranged.{pick}
+use Rattle.code.specs.Rows.{classOf}
+use Rattle.code.specs.Word.{operandsIn, fieldsIn, apartOf}
+use Rattle.code.specs.declared.Apart.{Apart}
+use Rattle.code.specs.declared.Class.{Class}
+use Rattle.code.specs.declared.Fields.{Fields}
+use Rattle.code.specs.declared.Operands.{Operands}
+use Rattle.control.specs.Latches.{used}
+use Rattle.control.specs.Next.{addressOf, nextOf, onwardOf, rrOf, tsrOf, plusOne}
+use Rattle.cycles.specs.Cycles.{Made}
+use Rattle.rows.proofs.Laws.{scan-none}
+use Rattle.rows.specs.Scan.{none}
+use Rattle.state.specs.declared.Core.{Core}
+use Rattle.state.specs.declared.Latches.{Latches}
+use Rattle.state.specs.declared.Sample.{Sample}
+use Rattle.sums.specs.Sums.{Step, Sign, codeOf, instructionOf, isPair, sourceOf, targetOf}
+use Rattle.sums.specs.Sums.Step.{byte, pair}
+use Rattle.sums.proofs.Codes.{cycles, pairs, options, goes-on, bus-kept, latches-kept, no-request, no-rtsr, working, class, no-cad, word-bit, stepCarry}
+use Rattle.sums.proofs.Cycles.{Fits, stepMade, step-is}
+
+-- ---- the word
+
+-- the digits of bits 15-0
+digits : (w c b a : ℕ) → b ≤ 0xF → a ≤ 0xF → w % 0x1_0000 ≡ c * 0x100 + b * 0x10 + a
+    → (w / 0x100 % 0x100 ≡ c) × (w / 0x10 % 0x10 ≡ b) × (w % 0x10 ≡ a)
+digits w c b a hb ha e = omega arith
+
+-- the fields of a register code's word
+abbrev fieldsAt : ℕ → ℕ → ℕ → ℕ → Fields
+fieldsAt w c b a =
+    record {
+      code = c;
+      class = Class.Register;
+      operands = Operands.Two b a;
+      «load_rr» = eqb (w / 0x1_0000 % 2) 1;
+      rni = eqb (w / 0x2_0000 % 2) 1;
+      user = w / 0x4_0000 % 0x10;
+    }
+
+apart-is : (w c b a : ℕ) → classOf c ≡ Class.Register → w < 0x40_0000 → b ≤ 0xF → a ≤ 0xF → w % 0x1_0000 ≡ c * 0x100 + b * 0x10 + a
+    → apartOf w ≡ Apart.Word (fieldsAt w c b a)
+unfolding apartOf fieldsIn operandsIn
+apart-is w c b a k h hb ha e =
+    let d = digits w c b a hb ha e in
+    rw (lt-ltb w 0x40_0000 h, d .0, k, d .1, d .2)
+
+-- ---- neither refused nor held
+
+refusal-none : (sign : Sign) (later : Bool) (t : Step) → Fits t → refusalOf (codeOf sign later (isPair t)) (Operands.Two (sourceOf t) (targetOf t)) ≡ 0
+unfolding refusalOf ofTwo oddOf
+refusal-none sign later (byte a b) h =
+    let c = codeOf sign later false in
+    let r = working sign later false in
+    rw (no-cad sign later false, pairs c r, word-bit sign later false, options c r, le-ltb 15 b (h .1))
+refusal-none sign later (pair a b) h =
+    let c = codeOf sign later true in
+    let r = working sign later true in
+    rw (no-cad sign later true, pairs c r, word-bit sign later true, options c r, h .2, h .3, le-ltb 15 b (omega arith))
+
+-- ---- executed
+
+-- the rest of the state after a step
+abbrev pub coreAfter : Core → Flags → Bool → Core
+coreAfter k f loads =
+    record {
+      flags = f;
+      address = record { lc = plusOne (k .address .lc); rr = pick loads (plusOne (k .address .lc)) (k .address .rr); tsr = k .address .tsr };
+      bus = k .bus;
+      latches = used (k .latches);
+    }
+
+abbrev pub endedAt : Core → Made → Bool → Bool → Ended
+endedAt k m loads wide = ended (m .file) (outcomeOf (coreAfter k (m .flags) loads) 0 (1 + bit wide) 0)
+
+executed-is : (sign : Sign) (later : Bool) (t : Step) (xs : List ℕ) (k : Core) (s : Sample) (w : ℕ) → Fits t
+    → executedOf xs k (fieldsAt w (codeOf sign later (isPair t)) (sourceOf t) (targetOf t)) s none
+    ≡ endedAt k (stepMade sign xs (k .latches .g) (stepCarry sign later (k .flags)) t) (eqb (w / 0x1_0000 % 2) 1) (isPair t)
+unfolding executedOf effectOf registerEffect addressOf nextOf onwardOf rrOf tsrOf
+executed-is sign later t xs k s w h =
+    let c = codeOf sign later (isPair t) in
+    let r = working sign later (isPair t) in
+    rw (
+      step-is sign later t xs k (s .dal) h,
+      bus-kept c r,
+      latches-kept c r,
+      no-request c r,
+      cycles c r,
+      word-bit sign later (isPair t),
+      no-rtsr c r,
+    )
+
+tried-is : (sign : Sign) (later : Bool) (t : Step) (xs : List ℕ) (k : Core) (s : Sample) (w : ℕ) → Fits t
+    → triedOf xs k (fieldsAt w (codeOf sign later (isPair t)) (sourceOf t) (targetOf t)) s none
+    ≡ endedAt k (stepMade sign xs (k .latches .g) (stepCarry sign later (k .flags)) t) (eqb (w / 0x1_0000 % 2) 1) (isPair t)
+unfolding triedOf
+tried-is sign later t xs k s w h =
+    rw (refusal-none sign later t h, goes-on (codeOf sign later (isPair t)) (working sign later (isPair t)) s) (executed-is sign later t xs k s w h)
+
+-- ---- fetched
+
+fits-b : (t : Step) → Fits t → sourceOf t ≤ 0xF
+fits-b (byte a b) h = h .1
+fits-b (pair a b) h = omega arith
+
+fits-a : (t : Step) → Fits t → targetOf t ≤ 0xF
+fits-a (byte a b) h = h .0
+fits-a (pair a b) h = omega arith
+
+no-outputs : (ws : List ℕ) (k : Core) (s : Sample) → outputsOf ws [] k s ≡ none
+unfolding outputsOf
+no-outputs ws k s = rw scan-none (same (ltb (k .address .lc) (length ws / 4)))
+  where
+    same : (b : Bool) → pick b none none ≡ none
+    same true = refl
+    same false = refl
+
+unmodified : (w : ℕ) (l : Latches) → l .marked ≡ false → modifiedOf w l ≡ w
+unfolding modifiedOf
+unmodified w l e = rw e
+
+-- RESET low and COMPUTE high
+picked : (r c : Bool) (a b d : Ended) → r ≡ false → c ≡ true → pick r a (pick c b d) ≡ b
+picked r c a b d e h = rw (e, h)
+
+pub attempt-is : (sign : Sign) (later : Bool) (t : Step) (ws xs : List ℕ) (k : Core) (s : Sample) → Fits t
+    → k .address .lc < length ws / 4 → wordAt ws (k .address .lc) < 0x40_0000
+    → wordAt ws (k .address .lc) % 0x1_0000 ≡ instructionOf sign later t
+    → k .latches .marked ≡ false → s .compute ≡ true → s .reset ≡ false
+    → attemptOf ws [] xs k s
+    ≡ endedAt k (stepMade sign xs (k .latches .g) (stepCarry sign later (k .flags)) t) (eqb (wordAt ws (k .address .lc) / 0x1_0000 % 2) 1) (isPair t)
+unfolding attemptOf attemptedOf fetchedOf
+attempt-is sign later t ws xs k s h l u e m c r =
+    let w = wordAt ws (k .address .lc) in
+    rw (
+      no-outputs ws k s,
+      picked (s .reset) (s .compute) _ _ _ r c,
+      lt-ltb (k .address .lc) (length ws / 4) l,
+      unmodified w (k .latches) m,
+      apart-is w (codeOf sign later (isPair t)) (sourceOf t) (targetOf t) (class sign later (isPair t)) u (fits-b t h) (fits-a t h) e,
+    )
+    (tried-is sign later t xs k s w h)

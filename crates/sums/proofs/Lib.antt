@@ -1,0 +1,11 @@
+pub mod Codes
+pub mod Cycles
+pub mod Attempt
+pub mod Run
+pub mod Rest
+pub mod Chain
+pub mod Numbers
+pub mod Given
+pub mod Summed
+pub mod Theorem
+pub mod Example

@@ -1,0 +1,100 @@
+/* The engine's interface: it runs a deck of MCP-1600 microcode, one attempt for each line sample.
+
+   A DECK is at most 65,536 bytes: four sections in this order, each after its count of two bytes.
+   All numbers have their low byte first. An unused bit that is set makes its item out of range.
+
+     words     0 to 2,048, 4 bytes each: bits 15-0 the instruction, 16 loads RR, 17 RNI,
+               18-21 the user's outputs
+     rows      0 to 128, 16 bytes each, see below
+     state     always 1, 41 bytes, see below
+     samples   0 to 65,535, 4 bytes each, see below
+
+   A ROW. A value may have no bit outside its mask.
+
+     0-1 LC mask             2-3 LC value          4 RNI mask (bit 0)     5 RNI value
+     6 TR byte mask          7 TR byte value       8 TSR mask (bits 1-0)  9 TSR value
+     10 interrupt mask (bit i is Ii, I0-I6)        11 interrupt value
+     12-13 address           14 lines: bit 0 LTA, 1 LRA, 2 LTSR           15 new TSR
+
+   THE STATE, in the deck and in the state buffer.
+
+     0-11 G0-GB        12-25 R2-RF         26 G (0-7)
+     27 flags, bit 7 to bit 0: N Z V C NB ZB C4 C8
+     28-29 LC          30-31 RR (both 0-2047)
+     32-33 TR          34-35 M             36 TSR (0-7)
+     37 marks: bit 0 ICS, 1 SYNC, 2 IACK, 3 a modification is waiting
+     38 I4-I6 in bits 0-2                  39-40 the modification, zero without its mark
+
+   A SAMPLE. Every attempt uses up one.
+
+     0-1 DAL data      2 lines: bit 0 REPLY, 1 BUSY, 2 COMPUTE, 3 RESET, 4 ICS
+     3 I0-I3 in bits 0-3 */
+#ifndef CHUENPHRAO_H
+#define CHUENPHRAO_H
+
+#include <stddef.h>
+#include <stdint.h>
+
+enum { DECK_MOST = 65536, WORD_BYTES = 4, ROW_BYTES = 16, STATE_BYTES = 41, SAMPLE_BYTES = 4, REQUEST_BYTES = 4 };
+
+/* The answers. Of several that apply the first in this order is given: 9, 1, 2, 3, 4, then at each
+   attempt 5, 6, 7, 8. An attempt with RESET high or COMPUTE low is never refused. */
+enum {
+    ANSWER_DONE = 0,    /* all samples used */
+    ANSWER_STATE = 1,   /* state out of range */
+    ANSWER_WORDS = 2,   /* over 2,048 words, or a word of 2^22 or more */
+    ANSWER_ROWS = 3,    /* over 128 rows, or a row out of range */
+    ANSWER_SAMPLES = 4, /* over 65,535 samples, a sample out of range, or the request buffer shorter
+                           than the samples */
+    ANSWER_NO_WORD = 5, /* LC has no word */
+    ANSWER_CODE = 6,    /* code unlisted, or AC */
+    ANSWER_PAIR = 7,    /* odd designator where a pair is needed */
+    ANSWER_OPTION = 8,  /* option not listed */
+    ANSWER_DECK = 9,    /* deck over 65,536 bytes, state count not 1, length other than its counts say,
+                           or the state buffer not 41 bytes */
+};
+
+/* A request is its kind times 65,536 plus a value of 16 bits. */
+enum {
+    KIND_NONE = 0,
+    KIND_READ = 1,        /* 1-4: the value is Rb:Ra before any change, Rb the high byte */
+    KIND_WRITE = 2,
+    KIND_READ_ACKNOWLEDGE = 3,
+    KIND_WRITE_ACKNOWLEDGE = 4,
+    KIND_DATA_IN = 5,     /* the sample's data */
+    KIND_WORD_OUT = 6,    /* 6-8: Rb:Ra */
+    KIND_BYTE_OUT = 7,
+    KIND_STATUS_OUT = 8,
+    KIND_STATUS_IN = 9,   /* the sample's data */
+    KIND_WAIT = 10,       /* the same word is attempted again; 0 and 10-12 have value 0 */
+    KIND_RESET = 11,
+    KIND_COMPUTE_LOW = 12,
+    KINDS = 13
+};
+
+typedef struct {
+    uint32_t answer;      /* 0-9, as above */
+    uint32_t attempts;    /* attempts made, a refused one not among them */
+    uint32_t microcycles; /* what they cost */
+} report;
+
+/* Runs a deck: one attempt for each sample until all are used or one is refused.
+
+   deck      is only read.
+   requests  has a place of four bytes for each sample; attempt i writes its request to place i,
+             counted from 0, low byte first. It may be longer: what lies past the samples' places
+             is never touched.
+   state     41 bytes.
+
+   No two of the buffers may overlap. A buffer of length 0 still needs a pointer that is not null.
+
+     answer    attempts and          state holds             requests holds
+               microcycles
+     0         those of all samples  the state after them    a request for each sample
+     5-8       those before the      the state before the    a request for each attempt made;
+               refused attempt       refused attempt         the other places are as found
+     1-4, 9    0 and 0               what it held before     what it held before */
+report run(const uint8_t *deck, size_t deck_len, uint8_t *requests, size_t requests_len,
+           uint8_t *state, size_t state_len);
+
+#endif

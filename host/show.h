@@ -1,0 +1,21 @@
+/* What a person reads of a deck that was run. */
+#ifndef SHOW_H
+#define SHOW_H
+
+#include "chuenphrao.h"
+#include "deck.h"
+
+typedef struct {
+    const char *name; /* of the deck's file */
+    sections deck;
+    report report;
+    const uint8_t *requests, *state; /* as the engine left them */
+} outcome;
+
+/* Answer, counts, each attempt's request, the state before and after. */
+void show(const outcome *ran);
+
+/* Answer, counts, LC and flag byte in one line. */
+void show_line(const outcome *ran);
+
+#endif

@@ -1,0 +1,126 @@
+//! What the cases showed.
+
+use compare::call::{Call, Left};
+use compare::deck::Sections;
+use compare::describe::KINDS;
+use compare::difference::word;
+use compare::listing;
+
+/// Listed instructions, CAD among them.
+const LISTED: usize = 150;
+
+/// Counts over the cases in which engine and interpreter agree.
+pub struct Tally {
+    /// Cases in which they agree.
+    pub passed: u64,
+    /// Attempts of these cases.
+    attempts: u64,
+    answers: [u64; 10],
+    kinds: [u64; 13],
+    /// Single attempts by the top byte of the word taken: all, completed ones, waits.
+    seen: [u64; 256],
+    completed: [u64; 256],
+    waited: [u64; 256],
+}
+
+impl Tally {
+    /// Nothing yet.
+    pub fn new() -> Self {
+        Self {
+            passed: 0,
+            attempts: 0,
+            answers: [0; 10],
+            kinds: [0; 13],
+            seen: [0; 256],
+            completed: [0; 256],
+            waited: [0; 256],
+        }
+    }
+
+    /// Takes in a case in which they agree.
+    pub fn count(&mut self, call: &Call, left: &Left) {
+        self.passed += 1;
+        self.attempts += u64::from(left.report.attempts);
+        self.answers[left.report.answer as usize] += 1;
+        let places = 0..left.report.attempts as usize;
+        for request in places.filter_map(|place| left.request(place)) {
+            self.kinds[request as usize >> 16] += 1;
+        }
+        if let Some(top) = single(call, left) {
+            self.seen[top] += 1;
+            match (
+                left.report.answer,
+                left.request(0).map(|request| request >> 16),
+            ) {
+                (0, Some(10)) => self.waited[top] += 1,
+                (0, _) => self.completed[top] += 1,
+                _ => {}
+            }
+        }
+    }
+
+    /// Prints the counts.
+    pub fn print(&self) {
+        println!("attempts: {}", self.attempts);
+        let answers: Vec<String> = (0..10)
+            .map(|at| format!("{at}: {}", self.answers[at]))
+            .collect();
+        println!("answers: {}", answers.join(", "));
+        let kinds = KINDS.iter().zip(self.kinds);
+        let kinds: Vec<String> = kinds
+            .map(|(kind, count)| format!("{kind} {count}"))
+            .collect();
+        println!("requests: {}", kinds.join(", "));
+        let least = listing::keys()
+            .into_iter()
+            .filter(|key| key != listing::LEFT_OUT);
+        let least = least.map(|key| (self.of(&self.completed, &key), key)).min();
+        if let Some((count, key)) = least {
+            println!("completed least often in single attempts: {key}, {count} times");
+        }
+    }
+
+    /// What the cases were to show and did not.
+    pub fn missing(&self) -> Vec<String> {
+        let answers = (0..10).filter(|&at| self.answers[at] == 0);
+        let answers = answers.map(|at| format!("answer {at} never came"));
+        let kinds = (0..13).filter(|&at| self.kinds[at] == 0);
+        let kinds = kinds.map(|at| format!("no {} request", KINDS[at]));
+        let waits = (0..=255).filter(|&top| listing::waits(top));
+        let waits = waits.filter(|&top| self.waited[usize::from(top)] == 0);
+        let waits = waits.map(|top| format!("{top:02X} never waited"));
+        let listed = listing::keys();
+        let count = (listed.len() != LISTED).then(|| format!("{} are listed", listed.len()));
+        let listed = listed.iter().filter_map(|key| self.lacking(key));
+        let instructions = waits.chain(listed).chain(count);
+        answers.chain(kinds).chain(instructions).collect()
+    }
+
+    /// What the single attempts lack of an instruction.
+    fn lacking(&self, key: &str) -> Option<String> {
+        match (self.of(&self.seen, key), self.of(&self.completed, key)) {
+            (0, _) => Some(format!("{key} never seen")),
+            (_, 0) if key != listing::LEFT_OUT => Some(format!("{key} never completed")),
+            _ => None,
+        }
+    }
+
+    /// The count of an instruction, over all its top bytes.
+    fn of(&self, counts: &[u64; 256], key: &str) -> u64 {
+        let tops = (0..=255).filter(|&top| listing::key(top).map_or(false, |own| own == key));
+        tops.map(|top| counts[usize::from(top)]).sum()
+    }
+}
+
+/// The top byte of the word that the only attempt of a call takes, when it takes one.
+fn single(call: &Call, left: &Left) -> Option<usize> {
+    let sections = Sections::of(&call.deck)?;
+    let lines = match sections.samples {
+        [_, _, lines, _] => lines,
+        _ => return None,
+    };
+    // COMPUTE high and RESET low.
+    let takes = lines >> 2 & 3 == 1 && matches!(left.report.answer, 0 | 6..=8);
+    let word = word(&sections, sections.state)?;
+    takes.then(|| usize::from((word >> 8) as u8))
+}

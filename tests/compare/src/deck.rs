@@ -1,0 +1,59 @@
+//! A deck taken apart, as far as its counts go; nothing is tested for its range.
+
+/// The bytes of the four sections, their counts left away.
+#[derive(Clone, Copy)]
+pub struct Sections<'a> {
+    /// Words, 4 bytes each.
+    pub words: &'a [u8],
+    /// Rows, 16 bytes each.
+    pub rows: &'a [u8],
+    /// The state.
+    pub state: &'a [u8],
+    /// Samples, 4 bytes each.
+    pub samples: &'a [u8],
+}
+
+impl<'a> Sections<'a> {
+    /// The sections of a deck whose counts its bytes bear out.
+    pub fn of(deck: &'a [u8]) -> Option<Self> {
+        let (words, rest) = section(deck, 4)?;
+        let (rows, rest) = section(rest, 16)?;
+        let (state, rest) = section(rest, 41)?;
+        let (samples, _) = section(rest, 4)?;
+        Some(Self {
+            words,
+            rows,
+            state,
+            samples,
+        })
+    }
+
+    /// The deck of these sections.
+    pub fn deck(&self) -> Vec<u8> {
+        let sections = [
+            (self.words, 4),
+            (self.rows, 16),
+            (self.state, 41),
+            (self.samples, 4),
+        ];
+        let mut deck = Vec::new();
+        for (bytes, size) in sections {
+            deck.extend(((bytes.len() / size) as u16).to_le_bytes());
+            deck.extend(bytes);
+        }
+        deck
+    }
+
+    /// The word at an address.
+    pub fn word(&self, address: u16) -> Option<u32> {
+        let at = 4 * usize::from(address);
+        let bytes = self.words.get(at..at + 4)?;
+        Some(u32::from_le_bytes(bytes.try_into().ok()?))
+    }
+}
+
+fn section(bytes: &[u8], size: usize) -> Option<(&[u8], &[u8])> {
+    let count = bytes.get(..2)?;
+    let end = 2 + size * usize::from(u16::from_le_bytes([count[0], count[1]]));
+    Some((bytes.get(2..end)?, &bytes[end..]))
+}

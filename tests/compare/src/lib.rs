@@ -1,0 +1,11 @@
+//! The compiled engine and the interpreter on the same inputs.
+
+#![forbid(unsafe_code)]
+#![warn(missing_docs)]
+
+pub mod call;
+pub mod deck;
+pub mod describe;
+pub mod difference;
+pub mod engine;
+pub mod listing;

@@ -1,0 +1,167 @@
+//! What a vector starts from and must come to.
+
+use crate::vector::{Term, Vector};
+use compare::call::{Call, Left};
+use compare::describe::{registers, FLAGS};
+use interpreter::decks::Single;
+use interpreter::{Report, State};
+
+/// An unlisted word, wherever the vector's own does not lie.
+const ELSEWHERE: u32 = 0x7800;
+
+/// The kind of a wait.
+const WAIT: u32 = 10;
+
+/// A call and what it must leave behind.
+pub struct Setting<'a> {
+    /// The vector.
+    pub vector: &'a Vector,
+    /// Whether what it does not name is high.
+    pub high: bool,
+    /// The deck of one sample.
+    pub call: Call,
+    /// What must be after.
+    pub expected: Left,
+}
+
+impl<'a> Setting<'a> {
+    /// The vector's setting, with all that it does not name low or high.
+    pub fn new(vector: &'a Vector, high: bool) -> Result<Self, String> {
+        let mut before = background(high);
+        set_all(&mut before, &vector.before)?;
+        let mut words = vec![ELSEWHERE; usize::from(before.lc)];
+        words.extend([vector.word, ELSEWHERE]);
+        words.truncate(2048);
+        let single = Single {
+            words,
+            rows: Vec::new(),
+            state: before.to_bytes(),
+            sample: sample(&vector.sample, high)?,
+        };
+        let call = Call::patterned(single.deck(), 8, 41);
+        let expected = expected(vector, &call, before)?;
+        Ok(Self {
+            vector,
+            high,
+            call,
+            expected,
+        })
+    }
+}
+
+/// The state before any name is set.
+fn background(high: bool) -> State {
+    let all = if high { 0xFFFF } else { 0 };
+    State {
+        registers: std::array::from_fn(|at| (0x10 + at as u8) ^ all as u8),
+        g: all as u8 & 7,
+        flags: all as u8,
+        lc: if high { 0x7A5 } else { 0x012 },
+        rr: all & 0x7FF,
+        tr: all,
+        m: all,
+        tsr: all as u8 & 7,
+        ics: high,
+        sync: high,
+        iack: high,
+        internal: all as u8 & 7,
+        modification: high.then_some(0),
+    }
+}
+
+fn set_all(state: &mut State, terms: &[Term]) -> Result<(), String> {
+    for (name, number) in terms {
+        set(state, name, *number).ok_or_else(|| format!("{name} cannot be {number:X}"))?;
+    }
+    Ok(())
+}
+
+/// Sets one name, when there is such a name and the number fits it.
+fn set(state: &mut State, name: &str, number: u32) -> Option<()> {
+    let (byte, word) = (u8::try_from(number).ok(), u16::try_from(number).ok());
+    let bit = byte.filter(|&byte| byte < 2);
+    if let Some(at) = registers().iter().position(|own| own == name) {
+        state.registers[at] = byte?;
+        return Some(());
+    }
+    if let Some(at) = FLAGS.iter().position(|&own| own == name) {
+        set_bit(&mut state.flags, 7 - at, bit?);
+        return Some(());
+    }
+    match name {
+        "G" => state.g = byte?,
+        "LC" => state.lc = word?,
+        "RR" => state.rr = word?,
+        "TR" => state.tr = word?,
+        "M" => state.m = word?,
+        "TSR" => state.tsr = byte?,
+        "ICS" => state.ics = bit? == 1,
+        "SYNC" => state.sync = bit? == 1,
+        "IACK" => state.iack = bit? == 1,
+        "I4" => set_bit(&mut state.internal, 0, bit?),
+        "I5" => set_bit(&mut state.internal, 1, bit?),
+        "I6" => set_bit(&mut state.internal, 2, bit?),
+        "MOD" => state.modification = Some(word?),
+        _ => return None,
+    }
+    Some(())
+}
+
+fn set_bit(byte: &mut u8, at: usize, bit: u8) {
+    *byte = *byte & !(1 << at) | bit << at;
+}
+
+/// The sample's four bytes: COMPUTE high, RESET low.
+fn sample(terms: &[Term], high: bool) -> Result<[u8; 4], String> {
+    let all = if high { 0xFF } else { 0 };
+    let mut sample = [all, all, all & 0b10011 | 0b00100, all & 15];
+    for (name, number) in terms {
+        match (name.as_str(), number) {
+            ("DATA", 0..=0xFFFF) => sample[..2].copy_from_slice(&(*number as u16).to_le_bytes()),
+            ("REPLY", 0..=1) => set_bit(&mut sample[2], 0, *number as u8),
+            ("BUSY", 0..=1) => set_bit(&mut sample[2], 1, *number as u8),
+            ("ICS", 0..=1) => set_bit(&mut sample[2], 4, *number as u8),
+            _ => return Err(format!("{name} cannot be {number:X}")),
+        }
+    }
+    Ok(sample)
+}
+
+/// What the call must leave behind.
+fn expected(vector: &Vector, call: &Call, before: State) -> Result<Left, String> {
+    let mut left = Left {
+        report: Report {
+            answer: 0,
+            attempts: 0,
+            microcycles: 0,
+        },
+        damage: 0,
+        requests: call.requests.clone(),
+        state: before.to_bytes().to_vec(),
+    };
+    if let Some(answer) = vector.gives("answer") {
+        left.report.answer = answer;
+        return Ok(left);
+    }
+    left.report.attempts = 1;
+    left.report.microcycles = vector.gives("cycles").ok_or("no cycles")?;
+    let request = vector.gives("request").unwrap_or(0);
+    left.requests[..4].copy_from_slice(&request.to_le_bytes());
+    if request >> 16 != WAIT {
+        left.state = executed(vector, before)?.to_bytes().to_vec();
+    }
+    Ok(left)
+}
+
+/// The state after the word is executed.
+fn executed(vector: &Vector, before: State) -> Result<State, String> {
+    let mut after = State {
+        lc: (before.lc + 1) % 2048,
+        modification: None,
+        ..before
+    };
+    let of_state = |(name, _): &&Term| !matches!(name.as_str(), "cycles" | "request");
+    let terms: Vec<Term> = vector.after.iter().filter(of_state).cloned().collect();
+    set_all(&mut after, &terms)?;
+    Ok(after)
+}

@@ -1,0 +1,24 @@
+//! An independent interpreter of the MCP-1600's microinstructions: the reference that the proved
+//! engine is compared with, and the baseline of its speed.
+//!
+//! [`run`] is the bench host's entry over a deck's bytes, [`attempt`] is one attempt of it.
+//! [`decks`] makes inputs for comparison.
+
+#![forbid(unsafe_code)]
+#![warn(missing_docs)]
+
+mod alu;
+mod attempt;
+mod code;
+mod deck;
+pub mod decks;
+mod execute;
+mod row;
+mod sample;
+mod state;
+
+pub use attempt::{attempt, Outcome};
+pub use deck::{run, Report, DECK_LIMIT};
+pub use row::Row;
+pub use sample::Sample;
+pub use state::State;

@@ -1,0 +1,136 @@
+//! The generator: the same seed gives the same case, and each kind shows what it is made for.
+
+mod common;
+
+use common::ran;
+use interpreter::decks::{case, single, Case, Kind};
+use interpreter::{attempt, Outcome, Report, Row, Sample, State};
+
+fn report(case: &Case) -> Report {
+    ran(&case.deck, case.requests, case.state).report
+}
+
+fn answers(kind: Kind, cases: u64) -> [u32; 10] {
+    let mut answers = [0; 10];
+    for seed in 0..cases {
+        answers[report(&case(kind, seed)).answer as usize] += 1;
+    }
+    answers
+}
+
+#[test]
+fn the_same_seed_gives_the_same_case() {
+    for kind in Kind::ALL {
+        let (one, other) = (case(kind, 7), case(kind, 7));
+        assert_eq!(one.deck, other.deck);
+        assert_eq!((one.requests, one.state), (other.requests, other.state));
+    }
+}
+
+#[test]
+fn damages_get_their_refusal() {
+    let damaging = Kind::Noise as usize + 1;
+    for kind in &Kind::ALL[damaging..Kind::ALL.len() - 1] {
+        let answer = match *kind as usize {
+            at if at <= Kind::StateModification as usize => 1,
+            at if at <= Kind::WordsMany as usize => 2,
+            at if at <= Kind::RowsMany as usize => 3,
+            at if at <= Kind::RequestsShort as usize => 4,
+            _ => 9,
+        };
+        let got = answers(*kind, 40);
+        assert_eq!(got[answer], 40, "{kind:?}: {got:?}");
+    }
+}
+
+#[test]
+fn several_damages_show_the_order() {
+    let got = answers(Kind::Several, 400);
+    for answer in [1, 2, 3, 4, 9] {
+        assert!(got[answer] >= 10, "{got:?}");
+    }
+    assert_eq!(got[0] + got[5..9].iter().sum::<u32>(), 0, "{got:?}");
+}
+
+#[test]
+fn refusals_at_a_fetch_come_up() {
+    let illegal = answers(Kind::Illegal, 100);
+    assert!(
+        illegal[6] >= 10 && illegal[7] >= 10 && illegal[8] >= 5,
+        "{illegal:?}"
+    );
+    let astray = answers(Kind::Astray, 100);
+    assert!(astray[5] >= 30, "{astray:?}");
+    let noise = answers(Kind::Noise, 100);
+    assert!(noise[6] >= 10 && noise[7] >= 10, "{noise:?}");
+    let bare = answers(Kind::Bare, 100);
+    assert!(bare[0] >= 10 && bare[5] >= 10, "{bare:?}");
+}
+
+#[test]
+fn long_decks_run_long() {
+    let decks = 24;
+    let reports = (0..decks).map(|seed| report(&case(Kind::Long, seed)));
+    let attempts: u32 = reports.map(|report| report.attempts).sum();
+    assert!(attempts / decks as u32 >= 2500, "{attempts}");
+    let largest = report(&case(Kind::Largest, 1));
+    assert!(largest.attempts >= 1000, "{largest:?}");
+    assert!(case(Kind::Largest, 1).deck.len() <= 65_536);
+}
+
+/// Steps a single attempt.
+fn stepped(seed: u64) -> (Outcome, bool) {
+    let single = single(seed);
+    let rows: Vec<Row> = single
+        .rows
+        .iter()
+        .map(|row| Row::from_bytes(row).unwrap())
+        .collect();
+    let mut state = State::from_bytes(&single.state).unwrap();
+    assert_eq!(state.to_bytes(), single.state);
+    let before = state.clone();
+    let sample = Sample::from_bytes(&single.sample).unwrap();
+    let outcome = attempt(&single.words, &rows, &mut state, sample);
+    let mut bare = before.clone();
+    attempt(&single.words, &[], &mut bare, sample);
+    if matches!(outcome, Outcome::Refused(_)) {
+        assert_eq!(state, before);
+    }
+    // Through the host's entry it comes to the same.
+    let ran = ran(&single.deck(), 4, 41);
+    assert_eq!(ran.state, state.to_bytes());
+    match outcome {
+        Outcome::Done {
+            request,
+            microcycles,
+        } => {
+            assert_eq!(ran.numbers(), [0, 1, microcycles]);
+            assert_eq!(ran.requests, request.to_le_bytes());
+        }
+        Outcome::Refused(answer) => assert_eq!(ran.numbers(), [answer.into(), 0, 0]),
+    }
+    (outcome, bare != state)
+}
+
+#[test]
+fn singles_reach_every_code() {
+    let mut executed = [0; 256];
+    let (mut refused, mut kinds, mut translated) = ([0; 9], [0; 13], 0);
+    for seed in 0..256 * 40 {
+        let (outcome, by_rows) = stepped(seed);
+        translated += u32::from(by_rows);
+        match outcome {
+            Outcome::Done { request, .. } => {
+                let kind = request as usize >> 16;
+                kinds[kind] += 1;
+                executed[seed as usize % 256] += u32::from(kind < 10);
+            }
+            Outcome::Refused(answer) => refused[usize::from(answer)] += 1,
+        }
+    }
+    let reached = executed.iter().filter(|&&count| count >= 5).count();
+    assert_eq!(reached, 256 - 18, "{executed:?}");
+    assert!(refused[5..].iter().all(|&count| count >= 10), "{refused:?}");
+    assert!(kinds.iter().all(|&count| count >= 10), "{kinds:?}");
+    assert!(translated >= 500, "{translated}");
+}
