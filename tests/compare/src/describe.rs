@@ -109,21 +109,36 @@ pub fn state(state: &[u8]) -> String {
     fields.join(", ")
 }
 
+/// What the driver found touched that may not be.
+fn damage(bits: u32) -> String {
+    let names = [
+        "around the deck",
+        "around the requests",
+        "around the state",
+        "the deck",
+    ];
+    let touched = (0..4).filter(|at| bits >> at & 1 == 1);
+    let touched: Vec<&str> = touched.map(|at| names[at]).collect();
+    match touched.is_empty() {
+        true => "nothing".to_string(),
+        false => touched.join(", "),
+    }
+}
+
+/// The report by name.
+fn report(left: &Left) -> Vec<(String, String)> {
+    let report = [
+        ("answer", left.report.answer.to_string()),
+        ("attempts", left.report.attempts.to_string()),
+        ("microcycles", left.report.microcycles.to_string()),
+        ("touched", damage(left.damage)),
+    ];
+    let report = report.map(|(name, value)| (name.to_string(), value));
+    report.to_vec()
+}
+
 /// What differs between two that were left behind, one to a line.
 pub fn differences(expected: &Left, got: &Left) -> Vec<String> {
-    let report = |left: &Left| {
-        let [answer, attempts, microcycles] = [
-            left.report.answer,
-            left.report.attempts,
-            left.report.microcycles,
-        ];
-        vec![
-            ("answer".to_string(), answer.to_string()),
-            ("attempts".to_string(), attempts.to_string()),
-            ("microcycles".to_string(), microcycles.to_string()),
-            ("damage".to_string(), left.damage.to_string()),
-        ]
-    };
     let whole = |left: &Left| [report(left), places(left), fields(&left.state)].concat();
     let pairs = whole(expected).into_iter().zip(whole(got));
     let unlike = pairs.filter(|(expected, got)| expected != got);

@@ -71,8 +71,8 @@ fn long(seed: u64) -> Call {
         }
         .deck();
     }
-    let places = deck.len();
-    Call::patterned(deck, places, 41)
+    let room = deck.len();
+    Call::patterned(deck, room, 41)
 }
 
 /// The nanoseconds of one run by the interpreter.

@@ -1,0 +1,119 @@
+-- What one byte cycle, or the two of a word, leave as they were: by the plan's kind, by whether it stores, and by the code being odd.
+-- Assumes nothing.
+use Prim.Native.Nat.{ℕ}
+use mathlib.Core.Path.{_≡_, refl, _∙_}
+use mathlib.Core.Bool.{Bool, true, false, false≢true}
+use mathlib.Core.List.{List}
+use native.Mathlib.Omega.{arith}
+use Rattle.alu.specs.Cycle.{cycleOf, keptOf, highFirstOf}
+use Rattle.alu.specs.Marks.{afterOf, afterByteOf, afterWordOf}
+use Rattle.alu.specs.declared.Cycle.{Cycle}
+use Rattle.alu.specs.declared.Flags.{Flags}
+use Rattle.alu.specs.declared.Kind.{Kind}
+use Rattle.cycles.specs.Cycles.{Made, chosen, stepOf, oneCycleOf, joinedOf, twoCyclesOf}
+use Rattle.cycles.specs.declared.Names.{Names}
+use Rattle.cycles.specs.declared.Plan.{Plan}
+use Rattle.table_laws.specs.Table.{Keeps, Obeys}
+
+-- moves and logic keep C4, C8 and C
+abbrev pub carries : Kind → Bool
+carries Kind.Add = false
+carries Kind.Subtract = false
+carries Kind.And = true
+carries Kind.AndNot = true
+carries Kind.Or = true
+carries Kind.Exclusive = true
+carries Kind.Move = true
+carries Kind.Ones = false
+carries Kind.Left = false
+carries Kind.Right = false
+
+-- the flags that a cycle writes, whether it carries and whether the code is odd
+abbrev pub marks : Bool → Bool → ℕ
+marks true true = 0xEC
+marks true false = 0x0C
+marks false true = 0xFF
+marks false false = 0x0F
+
+pub record Carried (f : Flags) (y : Cycle) : Type 0 where
+  pub c4 : y .c4 ≡ f .c4
+  pub c8 : y .c8 ≡ f .c8
+  pub c : y .c ≡ f .c
+
+cycle-carried : (k : Kind) (p q : ℕ) (c : Bool) (f : Flags) → carries k ≡ true → Carried f (cycleOf k p q c f)
+unfolding cycleOf keptOf
+cycle-carried Kind.Add p q c f e = absurd (false≢true e)
+cycle-carried Kind.Subtract p q c f e = absurd (false≢true e)
+cycle-carried Kind.And p q c f e = record { c4 = refl; c8 = refl; c = refl }
+cycle-carried Kind.AndNot p q c f e = record { c4 = refl; c8 = refl; c = refl }
+cycle-carried Kind.Or p q c f e = record { c4 = refl; c8 = refl; c = refl }
+cycle-carried Kind.Exclusive p q c f e = record { c4 = refl; c8 = refl; c = refl }
+cycle-carried Kind.Move p q c f e = record { c4 = refl; c8 = refl; c = refl }
+cycle-carried Kind.Ones p q c f e = absurd (false≢true e)
+cycle-carried Kind.Left p q c f e = absurd (false≢true e)
+cycle-carried Kind.Right p q c f e = absurd (false≢true e)
+
+-- a bit that is 1 is not 0
+pub set : {A : Type 0} → _≡_ {A = ℕ} 1 0 → A
+set e = absurd (omega arith)
+
+-- "condition flags (N Z V C) only by .. odd codes"
+pub after-keeps : (t odd : Bool) (f : Flags) (y : Cycle) (zero : Bool) → (t ≡ true → Carried f y) → Keeps (marks t odd) f (afterOf f y zero odd)
+unfolding afterOf
+after-keeps true true f y zero h =
+    record { n = set; z = set; v = set; c = λ e. h refl .c; nb = set; zb = set; c4 = λ e. h refl .c4; c8 = λ e. h refl .c8 }
+after-keeps true false f y zero h =
+    record {
+      n = λ e. refl;
+      z = λ e. refl;
+      v = λ e. refl;
+      c = λ e. refl;
+      nb = set;
+      zb = set;
+      c4 = λ e. h refl .c4;
+      c8 = λ e. h refl .c8;
+    }
+after-keeps false true f y zero h =
+    record { n = set; z = set; v = set; c = set; nb = set; zb = set; c4 = set; c8 = set }
+after-keeps false false f y zero h =
+    record { n = λ e. refl; z = λ e. refl; v = λ e. refl; c = λ e. refl; nb = set; zb = set; c4 = set; c8 = set }
+
+-- a plan's own columns, which its cycles obey
+abbrev pub Follows : Plan → Bool → List ℕ → Flags → Made → Type 0
+Follows plan odd xs f m = Obeys (plan .stores) (marks (carries (plan .kind)) odd) xs (m .file) f (m .flags)
+
+chosen-follows : (plan : Plan) (odd : Bool) (xs : List ℕ) (f : Flags) (t : Bool) (l m : Made)
+    → Follows plan odd xs f l → Follows plan odd xs f m → Follows plan odd xs f (chosen t l m)
+chosen-follows plan odd xs f true l m p q = p
+chosen-follows plan odd xs f false l m p q = q
+
+module _ (g : ℕ) (f : Flags) (plan : Plan) where
+  -- "Compare and test write no register"
+  step-file : (xs : List ℕ) (at : Names) (carry high : Bool) → plan .stores ≡ false → stepOf xs g f plan at carry high .file ≡ xs
+  unfolding stepOf
+  step-file xs at carry high e = rw e
+
+  step-carried : (xs : List ℕ) (at : Names) (carry high : Bool) → carries (plan .kind) ≡ true → Carried f (stepOf xs g f plan at carry high .cycle)
+  unfolding stepOf
+  step-carried xs at carry high e = cycle-carried (plan .kind) _ _ carry f e
+
+  pub one-cycle : (xs : List ℕ) (at : Names) (odd : Bool) → Follows plan odd xs f (oneCycleOf xs g f plan at odd)
+  unfolding oneCycleOf afterByteOf
+  one-cycle xs at odd =
+      record {
+        file = step-file xs at (plan .carry) false;
+        flags = after-keeps (carries (plan .kind)) odd f _ _ (step-carried xs at (plan .carry) false);
+      }
+
+  joined : (xs : List ℕ) (one other : Names) (high odd : Bool) → Follows plan odd xs f (joinedOf xs g f plan one other high odd)
+  unfolding afterWordOf
+  joined xs one other high odd =
+      record {
+        file = λ e. step-file _ other _ _ e ∙ step-file xs one (plan .carry) high e;
+        flags = after-keeps (carries (plan .kind)) odd f _ _ (step-carried _ other _ _);
+      }
+
+  pub two-cycles : (xs : List ℕ) (low high : Names) (odd : Bool) → Follows plan odd xs f (twoCyclesOf xs g f plan low high odd)
+  unfolding twoCyclesOf
+  two-cycles xs low high odd =
+      chosen-follows plan odd xs f (highFirstOf (plan .kind)) _ _ (joined xs high low true odd) (joined xs low high false odd)

@@ -1,0 +1,4 @@
+pub mod Cycles
+pub mod Instructions
+pub mod Rows
+pub mod Theorem
