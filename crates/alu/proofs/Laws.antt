@@ -1,6 +1,6 @@
 -- Laws of one byte cycle, and of sums and differences of any number of bytes: each proved once, over the number of bytes.
 -- Assumes nothing.
-use Prim.Native.Nat.{ℕ, suc, _+_, _-_, _*_, _^_, _%_, _<_, _≤_}
+use Prim.Native.Nat.{ℕ, suc, _+_, _-_, _*_, _^_, _%_, _<_}
 use mathlib.Core.Path.{_≡_, refl, ap, ap₂, _∙_, sym}
 use mathlib.Core.Bool.{Bool, true, false, not, _||_}
 use mathlib.Core.List.{List, [], _∷_}
@@ -9,14 +9,13 @@ use native.Mathlib.Nat.{add-zero, pow-succ', mul-assoc}
 use lib.Dec.{ltb, leb}
 use lib.ListN.{length}
 use borrow.Author.Tests.{leb-true, leb-false, ltb-true, ltb-false, lt-ltb, le-ltb, le-leb, lt-leb}
-use Rattle.alu.specs.Cycle.{addOf, subtractOf, bit, biased, choice, sumOutside}
-use Rattle.alu.specs.Numbers.{value, Bytes, sumBytes, carryOut, lastV, ones, half, differenceOutside}
+use Rattle.choose.specs.Ranged.{bit, pick}
+use Rattle.choose.proofs.Tests.{same-below, same-from, bit-le}
+use Rattle.alu.specs.Cycle.{addOf, biased, sumOutside}
+use Rattle.alu.specs.Numbers.{value, sumBytes, carryOut, lastV, ones, half, differenceOutside}
+use Rattle.numbers.specs.Numbers.{Bytes}
 
 -- ---- one byte
-
-pub bit-le : (t : Bool) → bit t ≤ 1
-bit-le true = omega arith
-bit-le false = omega arith
 
 not-bit : (t : Bool) → bit (not t) + bit t ≡ 1
 not-bit true = refl
@@ -32,7 +31,7 @@ bit-not false false e = absurd (omega arith)
 pub biased-byte : (p : ℕ) → p < 256 → (p + 128) % 256 ≡ biased 128 p
 biased-byte p h = go (ltb p 128) refl
   where
-    go : (t : Bool) → ltb p 128 ≡ t → (p + 128) % 256 ≡ choice t (p + 128) (p - 128)
+    go : (t : Bool) → ltb p 128 ≡ t → (p + 128) % 256 ≡ pick t (p + 128) (p - 128)
     go true e = omega (arith, ltb-true p 128 e)
     go false e = omega (arith, ltb-false p 128 e)
 
@@ -76,7 +75,7 @@ sum-law (p ∷ ps) (q ∷ qs) c bp bq e =
     let s = byte-sum p q c (bp .0) (bq .0) in
     rw (pow-succ' 256 (length ps), mul-assoc 256) (omega arith)
 
-ones-value : (qs : List ℕ) → Bytes qs → value (ones qs) + value qs + 1 ≡ 256 ^ length qs
+pub ones-value : (qs : List ℕ) → Bytes qs → value (ones qs) + value qs + 1 ≡ 256 ^ length qs
 ones-value [] b = refl
 ones-value (q ∷ qs) b = let ih = ones-value qs (b .1) in rw (pow-succ' 256 (length qs)) (omega arith)
 
@@ -156,24 +155,16 @@ back (p ∷ ps) (q ∷ qs) c bp bq e =
 
 -- a low digit below 256 moves no test at a multiple of 256
 digit-below : (r t k : ℕ) → r < 256 → ltb t k ≡ ltb (r + 256 * t) (256 * k)
-digit-below r t k h = go (ltb t k) refl
-  where
-    go : (b : Bool) → ltb t k ≡ b → b ≡ ltb (r + 256 * t) (256 * k)
-    go true e = sym (lt-ltb (r + 256 * t) (256 * k) (omega (arith, ltb-true t k e)))
-    go false e = sym (le-ltb (r + 256 * t) (256 * k) (omega (arith, ltb-false t k e)))
+digit-below r t k h = same-below t k (r + 256 * t) (256 * k) (λ l. omega arith) (λ l. omega arith)
 
-digit-from : (r t k : ℕ) → r < 256 → leb k t ≡ leb (256 * k) (r + 256 * t)
-digit-from r t k h = go (leb k t) refl
-  where
-    go : (b : Bool) → leb k t ≡ b → b ≡ leb (256 * k) (r + 256 * t)
-    go true e = sym (le-leb (256 * k) (r + 256 * t) (omega (arith, leb-true k t e)))
-    go false e = sym (lt-leb (256 * k) (r + 256 * t) (omega (arith, leb-false k t e)))
+pub digit-from : (r t k : ℕ) → r < 256 → leb k t ≡ leb (256 * k) (r + 256 * t)
+digit-from r t k h = same-from k t (256 * k) (r + 256 * t) (λ l. omega arith) (λ l. omega arith)
 
 -- nor the signed number's sign
 biased-digit : (h x p : ℕ) → p < 256 → biased (256 * h) (p + 256 * x) ≡ p + 256 * biased h x
-biased-digit h x p l = ap (λ (t : Bool). choice t (p + 256 * x + 256 * h) (p + 256 * x - 256 * h)) (sym (digit-below p x h l)) ∙ go (ltb x h) refl
+biased-digit h x p l = ap (λ (t : Bool). pick t (p + 256 * x + 256 * h) (p + 256 * x - 256 * h)) (sym (digit-below p x h l)) ∙ go (ltb x h) refl
   where
-    go : (t : Bool) → ltb x h ≡ t → choice t (p + 256 * x + 256 * h) (p + 256 * x - 256 * h) ≡ p + 256 * choice t (x + h) (x - h)
+    go : (t : Bool) → ltb x h ≡ t → pick t (p + 256 * x + 256 * h) (p + 256 * x - 256 * h) ≡ p + 256 * pick t (x + h) (x - h)
     go true e = omega arith
     go false e = omega (arith, ltb-false x h e)
 
@@ -186,8 +177,9 @@ outside-digit h x y p q r c k hp hq hr e =
     let third : 256 * (3 * h) ≡ 3 * (256 * h) = omega arith in
     ap₂ _||_ (digit-below r t h hr ∙ ap (λ (n : ℕ). ltb n (256 * h)) whole) (digit-from r t (3 * h) hr ∙ ap₂ leb third whole)
 
-half-step : (n : ℕ) → half (suc n) ≡ 256 * half n
-half-step n = rw (pow-succ' 256 n) (omega arith)
+-- w of the next byte up
+pub step-up : (w n : ℕ) → w * 256 ^ suc n ≡ 256 * (w * 256 ^ n)
+step-up w n = rw (pow-succ' 256 n) (omega arith)
 
 v-byte : (p q : ℕ) (c : Bool) → addOf p q c .v ≡ sumOutside (half 0) (value (p ∷ [])) (value (q ∷ [])) c
 unfolding addOf
@@ -202,32 +194,17 @@ v-law p q (x ∷ ps) [] c v bp bq e = absurd (omega arith)
 v-law p q (x ∷ ps) (y ∷ qs) c v bp bq e =
     v-law x y ps qs (addOf p q c .c8) (addOf p q c .v) (bp .1) (bq .1) (omega arith)
     ∙ outside-digit (half (length ps)) (value (x ∷ ps)) (value (y ∷ qs)) p q (addOf p q c .result) c (addOf p q c .c8) (bp .0) (bq .0) (result-byte p q c) (byte-sum p q c (bp .0) (bq .0))
-    ∙ ap (λ (h : ℕ). sumOutside h (value (p ∷ x ∷ ps)) (value (q ∷ y ∷ qs)) c) (sym (half-step (length ps)))
+    ∙ ap (λ (h : ℕ). sumOutside h (value (p ∷ x ∷ ps)) (value (q ∷ y ∷ qs)) c) (sym (step-up 128 (length ps)))
 
 -- the signed number of 255 - q for each byte, and that of the bytes, make one less than the range
 biased-ones : (h y z : ℕ) → z + y + 1 ≡ 2 * h → biased h z + biased h y + 1 ≡ 2 * h
 biased-ones h y z e = go (ltb z h) refl (ltb y h) refl
   where
-    go : (s : Bool) → ltb z h ≡ s → (t : Bool) → ltb y h ≡ t → choice s (z + h) (z - h) + choice t (y + h) (y - h) + 1 ≡ 2 * h
+    go : (s : Bool) → ltb z h ≡ s → (t : Bool) → ltb y h ≡ t → pick s (z + h) (z - h) + pick t (y + h) (y - h) + 1 ≡ 2 * h
     go true a true b = omega (arith, ltb-true z h a, ltb-true y h b)
     go true a false b = omega (arith, ltb-true z h a, ltb-false y h b)
     go false a true b = omega (arith, ltb-false z h a, ltb-true y h b)
     go false a false b = omega (arith, ltb-false z h a, ltb-false y h b)
-
--- tests that say the same of their numbers are equal
-same-below : (a b i j : ℕ) → (a < b → i < j) → (b ≤ a → j ≤ i) → ltb a b ≡ ltb i j
-same-below a b i j f g = go (ltb a b) refl
-  where
-    go : (t : Bool) → ltb a b ≡ t → t ≡ ltb i j
-    go true e = sym (lt-ltb i j (f (ltb-true a b e)))
-    go false e = sym (le-ltb i j (g (ltb-false a b e)))
-
-same-from : (a b i j : ℕ) → (a ≤ b → i ≤ j) → (b < a → j < i) → leb a b ≡ leb i j
-same-from a b i j f g = go (leb a b) refl
-  where
-    go : (t : Bool) → leb a b ≡ t → t ≡ leb i j
-    go true e = sym (le-leb i j (f (leb-true a b e)))
-    go false e = sym (lt-leb i j (g (leb-false a b e)))
 
 outside-ones : (h x y z : ℕ) (b : Bool) → z + y + 1 ≡ 2 * h → sumOutside h x z (not b) ≡ differenceOutside h x y b
 outside-ones h x y z b e =

@@ -3,22 +3,15 @@ use Prim.Native.Nat.{ℕ, _+_, _-_, _*_, _/_, _%_}
 use mathlib.Core.Bool.{Bool, true, false, not, _||_}
 use lib.Dec.{ltb, leb, eqb}
 use lib.Bits.{bitAnd, bitOr, bitXor}
+use Rattle.choose.specs.Ranged.{bit, pick}
 use Rattle.alu.specs.declared.Cycle.{Cycle}
 use Rattle.alu.specs.declared.Flags.{Flags}
 use Rattle.alu.specs.declared.Kind.{Kind}
 use Rattle.alu.specs.declared.Kind.the-variants.{Add, Subtract, And, AndNot, Or, Exclusive, Move, Ones, Left, Right}
 
-abbrev pub bit : Bool → ℕ
-bit true = 1
-bit false = 0
-
-abbrev pub choice : Bool → ℕ → ℕ → ℕ
-choice true a b = a
-choice false a b = b
-
 -- the signed number that x stands for, with h added: h is half the range, 128 for a byte
 abbrev pub biased : ℕ → ℕ → ℕ
-biased h x = choice (ltb x h) (x + h) (x - h)
+biased h x = pick (ltb x h) (x + h) (x - h)
 
 -- "V says the signed sum is outside -128 to 127": outside -h to h - 1, each number with h added
 abbrev pub sumOutside : ℕ → ℕ → ℕ → Bool → Bool

@@ -1,18 +1,15 @@
 -- The flags that one byte cycle, or the two of a word, leave. 01, "Codes, cycles and flags".
-use mathlib.Core.Bool.{Bool, true, false, _&&_}
+use mathlib.Core.Bool.{Bool, _&&_}
 use lib.Dec.{leb, eqb}
+use Rattle.choose.specs.Ranged.{pick}
 use Rattle.alu.specs.declared.Cycle.{Cycle}
 use Rattle.alu.specs.declared.Flags.{Flags}
-
-abbrev pub among : Bool → Flags → Flags → Flags
-among true f g = f
-among false f g = g
 
 -- "Status (NB ZB C4 C8) is always set ..; condition flags (N Z V C) only by .. odd codes"
 unfoldable pub afterOf : Flags → Cycle → Bool → Bool → Flags
 afterOf f y zero odd =
     let negative = leb 128 (y .result) in
-    among odd
+    pick odd
     (record { n = negative; z = zero; v = y .v; c = y .c; nb = negative; zb = zero; c4 = y .c4; c8 = y .c8 })
     (record { n = f .n; z = f .z; v = f .v; c = f .c; nb = negative; zb = zero; c4 = y .c4; c8 = y .c8 })
 

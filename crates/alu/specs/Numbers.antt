@@ -1,19 +1,15 @@
 -- Numbers of n bytes, low end first, and their sums and differences, a byte cycle for each byte.
-use Prim.Native.Nat.{ℕ, _+_, _-_, _*_, _^_, _<_, suc, zero}
-use mathlib.Core.Bool.{Bool, true, false, not, _||_}
+use Prim.Native.Nat.{ℕ, _+_, _-_, _*_, _^_}
+use mathlib.Core.Bool.{Bool, _||_}
 use mathlib.Core.List.{List, [], _∷_}
 use lib.Dec.{ltb, leb}
-use lib.ListN.{length}
-use Rattle.alu.specs.Cycle.{addOf, bit, biased}
+use Rattle.choose.specs.Ranged.{bit}
+use Rattle.alu.specs.Cycle.{addOf, biased}
 
 -- the number that bytes stand for
 abbrev pub value : List ℕ → ℕ
 value [] = 0
 value (x ∷ xs) = x + 256 * value xs
-
-abbrev pub Bytes : List ℕ → Type 0
-Bytes [] = Unit {0}
-Bytes (x ∷ xs) = (x < 256) × Bytes xs
 
 -- the bytes of a sum, the carry out of its last cycle, and V of its last cycle
 abbrev pub sumBytes : List ℕ → List ℕ → Bool → List ℕ

@@ -1,7 +1,7 @@
 // One byte cycle of the data chip, and the flags that one or two of them leave.
+use choose::bit_of;
 ghost use mathlib.Core.Path.{_≡_};
-ghost use Prim.Native.Nat.{_≤_};
-ghost use Rattle.alu.specs.Cycle.{bit, addOf, subtractOf, keptOf, onesOf, leftOf, rightOf, cycleOf, highFirstOf};
+ghost use Rattle.alu.specs.Cycle.{addOf, subtractOf, keptOf, onesOf, leftOf, rightOf, cycleOf, highFirstOf};
 ghost use Rattle.alu.specs.Marks.{afterOf, afterByteOf, afterWordOf};
 
 // What a byte cycle gives: the result, the carries out of positions 3 and 7, V, and what C becomes.
@@ -40,16 +40,10 @@ pub enum Kind {
     Right,
 }
 
-fn one(carry: bool) -> u16
-    ensures { λ r. ⌜ (r ≡ bit carry) × (r ≤ 1) ⌝ }
-{
-    carry as u16
-}
-
 pub fn add(p: u8, q: u8, carry: bool) -> Cycle
     ensures { λ r. ⌜ r ≡ addOf p q carry ⌝ }
 {
-    let k = one(carry);
+    let k = bit_of(carry) as u16;
     let sum = p as u16 + q as u16 + k;
     let digits = p as u16 % 16 + q as u16 % 16 + k;
     let signed = (p as u16 + 128) % 256 + (q as u16 + 128) % 256 + k;
@@ -105,7 +99,7 @@ fn left(q: u8, carry: bool) -> Cycle
 {
     let off = 128 <= q;
     Cycle {
-        result: (q as u16 * 2 % 256 + one(carry)) as u8,
+        result: (q as u16 * 2 % 256 + bit_of(carry) as u16) as u8,
         c4: q / 8 % 2 == 1,
         c8: off,
         v: false,
@@ -118,7 +112,7 @@ fn right(q: u8, carry: bool) -> Cycle
 {
     let off = q % 2 == 1;
     Cycle {
-        result: (q as u16 / 2 + 128 * one(carry)) as u8,
+        result: (q as u16 / 2 + 128 * bit_of(carry) as u16) as u8,
         c4: false,
         c8: off,
         v: false,

@@ -1,27 +1,26 @@
 -- One attempt. 01, "One attempt".
 use Prim.Native.Nat.{ℕ, _+_, _*_, _/_, _%_}
-use mathlib.Core.Bool.{Bool, true, false, not}
+use mathlib.Core.Bool.{false}
 use mathlib.Core.List.{List}
 use lib.Bits.{bitOr}
 use lib.Dec.{eqb, ltb}
 use lib.ListN.{length}
 use Rattle.choose.specs.Ranged.{pick}
 use Rattle.code.specs.Rows.{cyclesOf}
-use Rattle.code.specs.Word.{apartOf}
+use Rattle.code.specs.Word.{apartOf, numberOf}
 use Rattle.code.specs.declared.Apart.{Apart}
 use Rattle.code.specs.declared.Fields.{Fields}
-use Rattle.checks.specs.Checks.{refusalOf, waitingOf}
-use Rattle.control.specs.Bus.{placed, lines}
+use Rattle.checks.specs.Checks.{wordRefusalOf, waitingOf}
+use Rattle.control.specs.Bus.{placed, busWith}
 use Rattle.control.specs.Latches.{used}
-use Rattle.control.specs.Next.{inputsOf, addressOf}
-use Rattle.numbers.specs.Numbers.{quadAt}
+use Rattle.control.specs.Next.{inputsOf, addressAfter}
+use Rattle.numbers.specs.Numbers.{wordAt}
 use Rattle.rows.specs.Scan.{scanOf, none}
 use Rattle.rows.specs.declared.Outputs.{Outputs}
 use Rattle.rows.specs.declared.Row.{Row}
 use Rattle.state.specs.declared.Core.{Core}
 use Rattle.state.specs.declared.Latches.{Latches}
 use Rattle.state.specs.declared.Sample.{Sample}
-use Rattle.attempt.specs.declared.Effect.{Effect}
 use Rattle.attempt.specs.declared.Outcome.{Outcome}
 use Rattle.attempt.specs.Effect.{effectOf}
 
@@ -40,8 +39,8 @@ ended xs o = record { file = xs; outcome = o }
 abbrev pub refused : List ℕ → Core → ℕ → Ended
 refused xs k number = ended xs (outcomeOf k 0 0 number)
 
-abbrev pub stood : List ℕ → Core → ℕ → Ended
-stood xs k kind = ended xs (outcomeOf k (placed kind 0) 1 0)
+abbrev pub idled : List ℕ → Core → ℕ → Ended
+idled xs k kind = ended xs (outcomeOf k (placed kind 0) 1 0)
 
 -- an executed word: its effect, and the next address by the way it goes and the rows' outputs
 unfoldable pub executedOf : List ℕ → Core → Fields → Sample → Outputs → Ended
@@ -51,7 +50,7 @@ executedOf xs k w sample o =
     (outcomeOf
     (record {
       flags = e .effect .flags;
-      address = addressOf (k .address) (e .effect .way) (w .code) (w .«load_rr») o;
+      address = addressAfter (k .address) (e .effect .way) (w .code) (w .«load_rr») o;
       bus = e .effect .bus;
       latches = e .effect .latches;
     })
@@ -62,9 +61,9 @@ executedOf xs k w sample o =
 -- "Then refusals, then waiting, then execution"
 unfoldable pub triedOf : List ℕ → Core → Fields → Sample → Outputs → Ended
 triedOf xs k w sample o =
-    pick (eqb (refusalOf (w .code) (w .operands)) 0)
-    (pick (waitingOf (w .code) sample) (stood xs k 10) (executedOf xs k w sample o))
-    (refused xs k (refusalOf (w .code) (w .operands)))
+    pick (eqb (wordRefusalOf (w .code) (w .operands)) 0)
+    (pick (waitingOf (w .code) sample) (idled xs k 10) (executedOf xs k w sample o))
+    (refused xs k (wordRefusalOf (w .code) (w .operands)))
 
 -- "RESET high: LC becomes 1, SYNC and IACK go low, the waiting modification is dropped, nothing else changes"
 unfoldable pub resetOf : Core → Core
@@ -72,13 +71,9 @@ resetOf k =
     record {
       flags = k .flags;
       address = record { lc = 1; rr = k .address .rr; tsr = k .address .tsr };
-      bus = lines (k .bus .m) false false;
+      bus = busWith (k .bus .m) false false;
       latches = used (k .latches);
     }
-
--- the word at an address
-unfoldable pub wordAt : List ℕ → ℕ → ℕ
-wordAt ws at = quadAt ws (at * 4)
 
 -- "a waiting modification is ORed into its low 16 bits"
 unfoldable pub modifiedOf : ℕ → Latches → ℕ
@@ -87,8 +82,8 @@ modifiedOf w l = pick (l .marked) (w / 0x1_0000 * 0x1_0000 + bitOr (w % 0x1_0000
 -- 5, "LC has no word"; then 6, "code unlisted". A word of 2^22 or more is 2, which a run refuses before its first attempt
 abbrev pub takenOf : Apart → Outputs → List ℕ → Core → Sample → Ended
 takenOf (Apart.Word w) o xs k sample = triedOf xs k w sample o
-takenOf Apart.OutOfRange o xs k sample = refused xs k 2
-takenOf Apart.Unlisted o xs k sample = refused xs k 6
+takenOf Apart.OutOfRange o xs k sample = refused xs k (numberOf Apart.OutOfRange)
+takenOf Apart.Unlisted o xs k sample = refused xs k (numberOf Apart.Unlisted)
 
 unfoldable pub fetchedOf : List ℕ → Outputs → List ℕ → Core → Sample → Ended
 fetchedOf ws o xs k sample =
@@ -99,8 +94,8 @@ fetchedOf ws o xs k sample =
 -- "RESET high: .. (request kind 11). Else COMPUTE low: nothing changes (kind 12). .. Else the word at LC is taken"
 unfoldable pub attemptedOf : List ℕ → Outputs → List ℕ → Core → Sample → Ended
 attemptedOf ws o xs k sample =
-    pick (sample .reset) (stood xs (resetOf k) 11)
-    (pick (sample .compute) (fetchedOf ws o xs k sample) (stood xs k 12))
+    pick (sample .reset) (idled xs (resetOf k) 11)
+    (pick (sample .compute) (fetchedOf ws o xs k sample) (idled xs k 12))
 
 -- "Outputs of all matching rows are ORed": those for the word at LC, with its own bit 17
 unfoldable pub outputsOf : List ℕ → List Row → Core → Sample → Outputs

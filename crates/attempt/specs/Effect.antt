@@ -1,14 +1,13 @@
 -- What an executed instruction does, but for the next address: registers and flags, bus, latches, request, and whether it jumps.
-use Prim.Native.Nat.{ℕ, _+_, _*_}
+use Prim.Native.Nat.{ℕ}
 use mathlib.Core.List.{List}
-use Rattle.alu.specs.declared.Flags.{Flags}
 use Rattle.code.specs.declared.Operands.{Operands}
-use Rattle.control.specs.Bus.{busOf, requestOf}
-use Rattle.control.specs.Latches.{used, latchesOf}
+use Rattle.control.specs.Bus.{busAfter, requestOf}
+use Rattle.control.specs.Latches.{used, latchesAfter}
 use Rattle.control.specs.Next.{wayOf}
 use Rattle.control.specs.declared.Way.{Way}
-use Rattle.cycles.specs.Cycles.{Made}
 use Rattle.execute.specs.Execute.{literalOf, registersOf}
+use Rattle.numbers.specs.Numbers.{pairOf}
 use Rattle.state.specs.File.{registerOf}
 use Rattle.state.specs.declared.Core.{Core}
 use Rattle.state.specs.declared.Sample.{Sample}
@@ -39,21 +38,17 @@ literalEffect xs core code v a =
     let m = literalOf xs (core .latches .g) (core .flags) code v a in
     effected (m .file) (record { flags = m .flags; bus = core .bus; latches = used (core .latches); way = Way.Onward; request = 0 })
 
--- Rb:Ra, Rb high
-abbrev pub pairOf : ℕ → ℕ → ℕ
-pairOf rb ra = rb * 256 + ra
-
--- requests, M, TR and the modification take "Rb:Ra before any change", by "G before the attempt"
+-- requests, M, TR and the modification take "Rb:Ra before any change", Rb high, by "G before the attempt"
 unfoldable pub registerEffect : List ℕ → Core → ℕ → ℕ → ℕ → Sample → Effected
 registerEffect xs core code b a sample =
     let ra = registerOf xs (core .latches .g) a in
-    let pair = pairOf (registerOf xs (core .latches .g) b) ra in
+    let pair = pairOf ra (registerOf xs (core .latches .g) b) in
     let m = registersOf xs core (sample .dal) code b a in
     effected (m .file)
     (record {
       flags = m .flags;
-      bus = busOf (core .bus) code b pair;
-      latches = latchesOf (core .latches) code b ra pair sample;
+      bus = busAfter (core .bus) code b pair;
+      latches = latchesAfter (core .latches) code b ra pair sample;
       way = Way.Onward;
       request = requestOf code pair (sample .dal);
     })

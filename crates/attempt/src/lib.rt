@@ -13,8 +13,7 @@ use state::Latches;
 use state::Sample;
 ghost use mathlib.Core.Path.{_≡_};
 ghost use lib.ListN.{take};
-ghost use Rattle.rows.specs.Scan.{none};
-ghost use Rattle.attempt.specs.Effect.{jumpedOf, pairOf, effected, literalEffect, registerEffect, effectOf};
+ghost use Rattle.attempt.specs.Effect.{jumpedOf, effected, literalEffect, registerEffect, effectOf};
 ghost use Rattle.attempt.specs.Attempt.{outcomeOf, resetOf, modifiedOf, ended, executedOf, triedOf, fetchedOf, outputsOf, attemptOf};
 
 // What an executed instruction does, but for the next address.
@@ -66,13 +65,6 @@ fn literal(file: &mut [u8; 26], core: Core, code: u8, value: u8, reg: u8) -> Eff
     }
 }
 
-// Rb:Ra, Rb high.
-fn pair(rb: u8, ra: u8) -> u16
-    ensures { λ r. ⌜ r ≡ pairOf rb ra ⌝ }
-{
-    rb as u16 * 256 + ra as u16
-}
-
 fn register(file: &mut [u8; 26], core: Core, code: u8, b: u8, a: u8, sample: Sample) -> Effect
     ensures { λ r. ⌜ effected (now (file .exit)) r ≡ registerEffect (now (file .entry)) core code b a sample ⌝ }
 {
@@ -80,7 +72,7 @@ fn register(file: &mut [u8; 26], core: Core, code: u8, b: u8, a: u8, sample: Sam
     let held = core.bus;
     let ra = state::register(file, l.g, a);
     let rb = state::register(file, l.g, b);
-    let value = pair(rb, ra);
+    let value = numbers::pair(ra, rb);
     let bus = control::bus_after(held, code, b, value);
     let latches = control::latches_after(l, code, b, ra, value, sample);
     let request = control::request(code, value, sample.dal);
@@ -208,29 +200,19 @@ fn fetched(words: &[u8], o: Outputs, file: &mut [u8; 26], core: Core, sample: Sa
     }
 }
 
-fn none() -> Outputs
-    ensures { λ r. ⌜ r ≡ none ⌝ }
-{
-    Outputs {
-        address: 0,
-        lines: 0,
-        new_tsr: 0,
-    }
-}
-
 // What the first n rows of the table put out for the word at LC. Without rows nothing is looked at.
 fn looked(words: &[u8], table: [Row; 128], n: usize, core: Core, sample: Sample) -> Outputs
     ensures { λ r. ⌜ r ≡ outputsOf (now (words .entry)) (take n table) core sample ⌝ }
 {
     let at = core.address.lc as usize;
     if words.len() / 4 <= at {
-        return none();
+        return rows::none();
     }
     if n == 0 {
-        return none();
+        return rows::none();
     }
     let word = numbers::quad_at(words, at * 4);
-    rows::over(
+    rows::scan_table(
         table,
         n,
         control::inputs(core, word / 0x2_0000 % 2 == 1, sample),

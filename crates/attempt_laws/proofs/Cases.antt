@@ -5,34 +5,34 @@ use mathlib.Core.Path.{_≡_, refl}
 use mathlib.Core.List.{List}
 use lib.Dec.{eqb, ltb}
 use lib.ListN.{length}
-use Rattle.code.specs.Word.{apartOf}
+use Rattle.code.specs.Word.{apartOf, WellFormed}
 use Rattle.code.specs.declared.Apart.{Apart}
 use Rattle.code.specs.declared.Fields.{Fields}
-use Rattle.code.proofs.Words.{WellFormed}
 use Rattle.code.proofs.Laws.{apart-well-formed}
-use Rattle.checks.specs.Checks.{refusalOf, waitingOf}
+use Rattle.checks.specs.Checks.{wordRefusalOf, waitingOf}
 use Rattle.rows.specs.declared.Outputs.{Outputs}
 use Rattle.rows.specs.declared.Row.{Row}
 use Rattle.state.specs.declared.Core.{Core}
 use Rattle.state.specs.declared.Sample.{Sample}
-use Rattle.attempt.specs.Attempt.{Ended, refused, stood, executedOf, triedOf, resetOf, wordAt, modifiedOf, takenOf, fetchedOf, attemptedOf, outputsOf, attemptOf}
-use Rattle.attempt_laws.proofs.Choice.{pick-all}
+use Rattle.attempt.specs.Attempt.{Ended, refused, idled, executedOf, triedOf, resetOf, modifiedOf, takenOf, fetchedOf, attemptedOf, outputsOf, attemptOf}
+use Rattle.choose.proofs.Choice.{pick-all}
+use Rattle.numbers.specs.Numbers.{wordAt}
 
 -- P of each case, with the rows' outputs o
 pub record Cases (P : Ended → Type 0) (xs : List ℕ) (k : Core) (s : Sample) (o : Outputs) : Type 0 where
   pub refuses : (number : ℕ) → P (refused xs k number)
-  pub waits : P (stood xs k 10)
-  pub resets : P (stood xs (resetOf k) 11)
-  pub stops : P (stood xs k 12)
+  pub waits : P (idled xs k 10)
+  pub resets : P (idled xs (resetOf k) 11)
+  pub stops : P (idled xs k 12)
   pub executes : (w : Fields) → WellFormed w → P (executedOf xs k w s o)
 
 module _ (P : Ended → Type 0) (xs : List ℕ) (k : Core) (s : Sample) (o : Outputs) (c : Cases P xs k s o) where
   tried-all : (w : Fields) → WellFormed w → P (triedOf xs k w s o)
   unfolding triedOf
   tried-all w f =
-      pick-all P (eqb (refusalOf (w .code) (w .operands)) 0) _ _
+      pick-all P (eqb (wordRefusalOf (w .code) (w .operands)) 0) _ _
       (pick-all P (waitingOf (w .code) s) _ _ (c .waits) (c .executes w f))
-      (c .refuses (refusalOf (w .code) (w .operands)))
+      (c .refuses (wordRefusalOf (w .code) (w .operands)))
 
   taken-all : (word : ℕ) (x : Apart) → apartOf word ≡ x → P (takenOf x o xs k s)
   taken-all word (Apart.Word w) e = tried-all w (apart-well-formed word w e)

@@ -2,7 +2,7 @@
 -- Assumes nothing.
 use Prim.Native.Nat.{ℕ, _-_, _*_, _/_, _%_, _<_}
 use mathlib.Core.Path.{_≡_, refl, sym}
-use mathlib.Core.Bool.{Bool, true, false, false≢true}
+use mathlib.Core.Bool.{Bool, false, false≢true}
 use native.Mathlib.Omega.{arith}
 use lib.Bits.{and-lt, or-lt}
 use lib.Dec.{eqb}
@@ -14,11 +14,11 @@ use Rattle.state.specs.declared.Address.{Address}
 use Rattle.state.specs.declared.Bus.{Bus}
 use Rattle.state.specs.declared.Latches.{Latches}
 use Rattle.state.specs.declared.Sample.{Sample}
-use Rattle.control.specs.Bus.{afterInput, busOf, requestOf}
-use Rattle.control.specs.Latches.{used, withInterrupts, taken, waiting, inputLatchesOf, latchesOf}
-use Rattle.control.specs.Next.{heldOf, wayOf, onwardOf, nextOf, rrOf, tsrOf, addressOf}
+use Rattle.control.specs.Bus.{afterInput, busAfter, requestOf}
+use Rattle.control.specs.Latches.{used, withInterrupts, withLoaded, waiting, inputLatchesOf, latchesAfter}
+use Rattle.control.specs.Next.{jumpTaken, wayOf, onwardOf, nextOf, rrOf, tsrOf, addressAfter}
 use Rattle.control.specs.declared.Way.{Way}
-use Rattle.attempt_laws.proofs.Choice.{end, _also_, pick-all, ranged-all}
+use Rattle.choose.proofs.Choice.{end, _also_, pick-all, ranged-all}
 
 -- ---- the bus and its request
 
@@ -29,8 +29,8 @@ after-input-in-range : (h : Bus) (b : ℕ) → BusInRange h → BusInRange (afte
 unfolding afterInput
 after-input-in-range h b l = pick-all BusInRange (eqb (b / 4 % 2) 1) _ _ l l
 
-pub bus-in-range : (h : Bus) (code b pair : ℕ) → BusInRange h → pair < 65536 → BusInRange (busOf h code b pair)
-unfolding busOf
+pub bus-in-range : (h : Bus) (code b pair : ℕ) → BusInRange h → pair < 65536 → BusInRange (busAfter h code b pair)
+unfolding busAfter
 bus-in-range h code b pair l p = ranged-all BusInRange code _ (l also after-input-in-range h b l also l also p also p also p also p also end) l
 
 -- "A request is kind times 65,536 plus a value": kinds of executed words are 0 to 9, values have 16 bits
@@ -71,13 +71,13 @@ module _ (l : Latches) (h : LatchesInRange l) where
   input-latches-in-range : (b dal : ℕ) (ics : Bool) → dal < 65536 → LatchesInRange (inputLatchesOf l b dal ics)
   unfolding inputLatchesOf
   input-latches-in-range b dal ics d =
-      let taking : (g : ℕ) → g < 8 → LatchesInRange (taken l g dal ics) = λ g p. plain g dal (l .interrupts) ics p d (h .interrupts) in
+      let taking : (g : ℕ) → g < 8 → LatchesInRange (withLoaded l g dal ics) = λ g p. plain g dal (l .interrupts) ics p d (h .interrupts) in
       ranged-all LatchesInRange (b % 4) _
       (used-in-range l h also taking (dal / 16 % 8) (omega arith) also taking (dal / 64 % 8) (omega arith) also end)
       (taking (l .g) (h .g))
 
-  pub latches-in-range : (code b ra pair : ℕ) (sample : Sample) → pair < 65536 → sample .dal < 65536 → LatchesInRange (latchesOf l code b ra pair sample)
-  unfolding latchesOf
+  pub latches-in-range : (code b ra pair : ℕ) (sample : Sample) → pair < 65536 → sample .dal < 65536 → LatchesInRange (latchesAfter l code b ra pair sample)
+  unfolding latchesAfter
   latches-in-range code b ra pair sample p d =
       let u = used-in-range l h in
       let interrupts : (i : ℕ) → i < 8 → LatchesInRange (withInterrupts l i) = λ i q. plain (l .g) (l .tr) i (l .ics) (h .g) (h .tr) q in
@@ -105,7 +105,7 @@ WayInRange Way.Onward = Unit {0}
 pub way-in-range : (lc code n : ℕ) (f : Flags) (ics : Bool) → lc < 2048 → n < 2048 → WayInRange (wayOf lc code n f ics)
 unfolding wayOf
 way-in-range lc code n f ics h l =
-    ranged-all WayInRange code _ (l also tt also pick-all WayInRange (heldOf code f ics) _ _ (omega arith) tt also end) tt
+    ranged-all WayInRange code _ (l also tt also pick-all WayInRange (jumpTaken code f ics) _ _ (omega arith) tt also end) tt
 
 -- InRange's part of the address
 pub record AddressInRange (a : Address) : Type 0 where
@@ -136,7 +136,7 @@ module _ (a : Address) (o : Outputs) (h : AddressInRange a) (p : OutputsInRange 
       let below : ℕ → Type 0 = λ n. n < 8 in
       pick-all below (eqb code 0x74) _ _ (omega arith) (pick-all below (ltsr o) _ _ (omega arith) (h .tsr))
 
-  pub address-in-range : (way : Way) (code : ℕ) (loads : Bool) → WayInRange way → AddressInRange (addressOf a way code loads o)
-  unfolding addressOf
+  pub address-in-range : (way : Way) (code : ℕ) (loads : Bool) → WayInRange way → AddressInRange (addressAfter a way code loads o)
+  unfolding addressAfter
   address-in-range way code loads w =
       record { lc = next-in-range way w; rr = rr-in-range loads; tsr = tsr-in-range code }

@@ -5,7 +5,7 @@ use mathlib.Core.Path.{_≡_, refl, _∙_, sym}
 use mathlib.Core.Bool.{Bool, true, false, not, _||_, Bool·beq, false≢true}
 use mathlib.Core.List.{List, [], _∷_}
 use native.Mathlib.Omega.{arith}
-use lib.Dec.{T, eqb, eqb→eq, ltb}
+use lib.Dec.{eqb, eqb→eq, ltb}
 use lib.ListN.{length}
 use borrow.Author.Tests.{lt-ltb, ltb-true, eqb-false, ne-eqb}
 use Rattle.choose.specs.Ranged.{pick, ranged}
@@ -18,7 +18,7 @@ use Rattle.code.specs.declared.Class.{Class}
 use Rattle.code.specs.declared.Fields.{Fields}
 use Rattle.code.proofs.Words.{is-apart}
 use Rattle.code.proofs.Laws.{apart-well-formed}
-use Rattle.checks.specs.Checks.{oddOf, ofTwo, refusalOf, waitingOf}
+use Rattle.checks.specs.Checks.{oddDesignatorOf, designatorRefusalOf, wordRefusalOf, waitingOf}
 use Rattle.rows.specs.declared.Outputs.{Outputs}
 use Rattle.rows.specs.declared.Row.{Row}
 use Rattle.state.specs.Range.{InRange, SampleInRange}
@@ -26,14 +26,9 @@ use Rattle.state.specs.declared.Core.{Core}
 use Rattle.state.specs.declared.Sample.{Sample}
 use Rattle.attempt.specs.Attempt.{Ended, executedOf, triedOf, takenOf, fetchedOf, attemptedOf, outputsOf, attemptOf}
 use Rattle.attempt_laws.specs.Fate.{Fate, refused, waited, reset, compute-low, completed, noCode, oddPair, noOption, mustWait, bIn, aIn, wordFate, takenWord, fateOf, Bears, seen}
-use Rattle.attempt_laws.proofs.Choice.{pick-both}
+use Rattle.choose.proofs.Choice.{pick-both}
+use Rattle.choose.proofs.Tests.{equal-tests}
 use Rattle.attempt_laws.proofs.Range.{executed-request}
-
-equal-tests : (a b : Bool) → T (Bool·beq a b) → a ≡ b
-equal-tests true true t = refl
-equal-tests true false t = absurd t
-equal-tests false true t = absurd t
-equal-tests false false t = refl
 
 -- ---- the engine's tables against 01's lists: two tests over the 256 codes, which the checker computes
 
@@ -47,14 +42,14 @@ numberIn Class.Unlisted code b a = 6
 numberIn Class.Jump code b a = 0
 numberIn Class.Conditional code b a = 0
 numberIn Class.Literal code b a = 0
-numberIn Class.Register code b a = ofTwo code b a
+numberIn Class.Register code b a = designatorRefusalOf code b a
 
 abbrev agree : ℕ → ℕ → ℕ → Bool
 agree code b a = eqb (numberIn (classOf code) code b a) (numberOf code b a)
 
 -- for every code and designators
 numbers-equal : (code b a : ℕ) → code < 256 → b < 16 → a < 16 → numberIn (classOf code) code b a ≡ numberOf code b a
-unfolding classOf ranged ofTwo oddOf pairsOf optionsOf noCode oddPair noOption
+unfolding classOf ranged designatorRefusalOf oddDesignatorOf pairsOf optionsOf noCode oddPair noOption
 numbers-equal code b a h i j =
     let codes = below 256 (λ c. allBelow 16 (λ x. allBelow 16 (agree c x))) tt code h in
     eqb→eq (numberIn (classOf code) code b a) (numberOf code b a) (below 16 (agree code b) (below 16 (λ x. allBelow 16 (agree code x)) codes b i) a j)
@@ -77,8 +72,8 @@ waits-equal code h s = go (s .reply) (s .busy)
     go false false = equal-tests _ _ (below 256 (test false false) tt code h)
 
 -- the engine's number of a listed word is that of its class
-refusal-in : (c : Class) (word : ℕ) → listed c ≡ true → refusalOf (codeIn c (topOf word)) (operandsIn c word) ≡ numberIn c (topOf word) (bIn word) (aIn word)
-unfolding refusalOf operandsIn
+refusal-in : (c : Class) (word : ℕ) → listed c ≡ true → wordRefusalOf (codeIn c (topOf word)) (operandsIn c word) ≡ numberIn c (topOf word) (bIn word) (aIn word)
+unfolding wordRefusalOf operandsIn
 refusal-in Class.Unlisted word l = absurd (false≢true l)
 refusal-in Class.Jump word l = refl
 refusal-in Class.Conditional word l = refl
@@ -110,7 +105,7 @@ pick-known P true a b x y p q = p refl
 pick-known P false a b x y p q = q refl
 
 module _ (xs : List ℕ) (k : Core) (s : Sample) (o : Outputs) where
-  tried-bears : (word n : ℕ) (t : Bool) (w : Fields) → apartOf word ≡ Apart.Word w → refusalOf (w .code) (w .operands) ≡ n → waitingOf (w .code) s ≡ t
+  tried-bears : (word n : ℕ) (t : Bool) (w : Fields) → apartOf word ≡ Apart.Word w → wordRefusalOf (w .code) (w .operands) ≡ n → waitingOf (w .code) s ≡ t
       → Bears word xs k s o (triedOf xs k w s o) (pick (eqb n 0) (pick t waited completed) (refused n))
   unfolding triedOf
   tried-bears word n t w e p q =
@@ -170,15 +165,3 @@ module _ (ws : List ℕ) (rs : List Row) (xs : List ℕ) (k : Core) (s : Sample)
   -- and "exactly": what is seen of it is that fate and no other
   pub attempt-seen : InRange xs k → SampleInRange s → seen (attemptOf ws rs xs k s) ≡ fateOf ws k s
   attempt-seen h d = seen-bears xs k s (outputsOf ws rs k s) (takenWord ws k) h d (attemptOf ws rs xs k s) (fateOf ws k s) attempt-fate
-
--- 01, "Checked by hand": "Word A232: 7. A222: executed. 7800, AD32, AC22: 6. ISB with b 4: 8; b 3: executed", whatever the sample
-pub by-hand : (s : Sample)
-    → (wordFate 0xA232 s ≡ refused 7)
-    × (wordFate 0xA222 s ≡ completed)
-    × (wordFate 0x7800 s ≡ refused 6)
-    × (wordFate 0xAD32 s ≡ refused 6)
-    × (wordFate 0xAC22 s ≡ refused 6)
-    × (wordFate 0xE440 s ≡ refused 8)
-    × (wordFate 0xE430 s ≡ completed)
-unfolding wordFate noCode oddPair noOption mustWait
-by-hand s = (refl, refl, refl, refl, refl, refl, refl)

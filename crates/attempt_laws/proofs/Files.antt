@@ -12,11 +12,12 @@ use borrow.Author.Tests.{eqb-true, eqb-false}
 use Rattle.alu.specs.Cycle.{subtractOf, keptOf, onesOf, leftOf, rightOf, cycleOf, highFirstOf}
 use Rattle.alu.specs.declared.Flags.{Flags}
 use Rattle.alu.specs.declared.Kind.{Kind}
-use Rattle.alu.proofs.Laws.{bit-le, result-byte}
-use Rattle.choose.proofs.Table.{both-left, both-right}
+use Rattle.alu.proofs.Laws.{result-byte}
+use Rattle.choose.proofs.Choice.{pick-all}
+use Rattle.choose.proofs.Tests.{both-left, both-right, bit-le}
 use Rattle.state.specs.File.{slotOf, registerOf, writtenOf}
 use Rattle.state.proofs.Laws.{written-length, written-same, written-other}
-use Rattle.cycles.specs.Cycles.{Made, operandOf, either, chosen, stepOf, oneCycleOf, joinedOf, twoCyclesOf}
+use Rattle.cycles.specs.Cycles.{Made, operandOf, stepOf, oneCycleOf, oneThenOther, twoCyclesOf}
 use Rattle.cycles.specs.declared.Names.{Names}
 use Rattle.cycles.specs.declared.Operand.{Operand}
 use Rattle.cycles.specs.declared.Plan.{Plan}
@@ -90,14 +91,6 @@ operand-byte Operand.B ra rb high t ha hb = hb
 operand-byte (Operand.Number n) ra rb true t ha hb = omega (arith, ltb→lt n 65536 t)
 operand-byte (Operand.Number n) ra rb false t ha hb = omega arith
 
-either-in-range : (t : Bool) (xs ys : List ℕ) → FileInRange xs → FileInRange ys → FileInRange (either t xs ys)
-either-in-range true xs ys h l = h
-either-in-range false xs ys h l = l
-
-chosen-in-range : (t : Bool) (m n : Made) → FileInRange (m .file) → FileInRange (n .file) → FileInRange (chosen t m n .file)
-chosen-in-range true m n h l = h
-chosen-in-range false m n h l = l
-
 module _ (g : ℕ) (f : Flags) (plan : Plan) (t : T (planFits plan)) where
   step-in-range : (xs : List ℕ) (at : Names) (carry high : Bool) → FileInRange xs → FileInRange (stepOf xs g f plan at carry high .file)
   unfolding stepOf
@@ -106,17 +99,17 @@ module _ (g : ℕ) (f : Flags) (plan : Plan) (t : T (planFits plan)) where
       let rb = register-byte xs g (at .b) h in
       let p = operand-byte (plan .p) _ _ high (both-left (fits (plan .p)) (fits (plan .q)) t) ra rb in
       let q = operand-byte (plan .q) _ _ high (both-right (fits (plan .p)) (fits (plan .q)) t) ra rb in
-      either-in-range (plan .stores) _ xs (written-in-range xs g (at .a) _ h (cycle-byte (plan .kind) _ _ carry f p q)) h
+      pick-all FileInRange (plan .stores) _ xs (written-in-range xs g (at .a) _ h (cycle-byte (plan .kind) _ _ carry f p q)) h
 
   pub one-cycle-in-range : (xs : List ℕ) (at : Names) (odd : Bool) → FileInRange xs → FileInRange (oneCycleOf xs g f plan at odd .file)
   unfolding oneCycleOf
   one-cycle-in-range xs at odd h = step-in-range xs at (plan .carry) false h
 
-  joined-in-range : (xs : List ℕ) (one other : Names) (high odd : Bool) → FileInRange xs → FileInRange (joinedOf xs g f plan one other high odd .file)
+  joined-in-range : (xs : List ℕ) (one other : Names) (high odd : Bool) → FileInRange xs → FileInRange (oneThenOther xs g f plan one other high odd .file)
   joined-in-range xs one other high odd h =
       step-in-range _ other _ _ (step-in-range xs one (plan .carry) high h)
 
   pub two-cycles-in-range : (xs : List ℕ) (low high : Names) (odd : Bool) → FileInRange xs → FileInRange (twoCyclesOf xs g f plan low high odd .file)
   unfolding twoCyclesOf
   two-cycles-in-range xs low high odd h =
-      chosen-in-range (highFirstOf (plan .kind)) _ _ (joined-in-range xs high low true odd h) (joined-in-range xs low high false odd h)
+      pick-all (λ (m : Made). FileInRange (m .file)) (highFirstOf (plan .kind)) _ _ (joined-in-range xs high low true odd h) (joined-in-range xs low high false odd h)

@@ -1,4 +1,3 @@
-pub mod Choice
 pub mod Files
 pub mod Registers
 pub mod Control
@@ -7,3 +6,4 @@ pub mod Range
 pub mod Refusal
 pub mod Starred
 pub mod Fate
+pub mod Frame

@@ -1,6 +1,6 @@
--- "In range stays in range": a returned state can be handed in again. And what an attempt's request and microcycles are at most.
+-- In range stays in range: a returned state can be handed in again. And what an attempt's request is at most.
 -- Assumes nothing.
-use Prim.Native.Nat.{ℕ, _*_, _/_, _<_, _≤_, zero-le}
+use Prim.Native.Nat.{ℕ, _*_, _/_, _<_, zero-le}
 use mathlib.Core.Path.{_≡_}
 use mathlib.Core.Bool.{true}
 use mathlib.Core.List.{List}
@@ -8,15 +8,14 @@ use native.Mathlib.Omega.{arith}
 use lib.Dec.{ltb}
 use lib.ListN.{length}
 use Rattle.alu.specs.declared.Flags.{Flags}
-use Rattle.code.specs.Rows.{cyclesOf}
 use Rattle.code.specs.declared.Class.{Class}
 use Rattle.code.specs.declared.Fields.{Fields}
 use Rattle.code.specs.declared.Operands.{Operands}
-use Rattle.code.proofs.Shape.{Fit, jump, conditional, literal, register}
-use Rattle.code.proofs.Words.{WellFormed}
 use Rattle.rows.specs.Range.{rowsInRange, OutputsInRange}
 use Rattle.rows.specs.declared.Outputs.{Outputs}
 use Rattle.rows.specs.declared.Row.{Row}
+use Rattle.numbers.specs.Numbers.{pairOf}
+use Rattle.numbers.proofs.Laws.{byte-below, bytes-each}
 use Rattle.rows.proofs.Laws.{scan-in-range}
 use Rattle.state.specs.File.{registerOf}
 use Rattle.state.specs.Range.{InRange, SampleInRange}
@@ -26,21 +25,22 @@ use Rattle.state.specs.declared.Core.{Core}
 use Rattle.state.specs.declared.Latches.{Latches}
 use Rattle.state.specs.declared.Sample.{Sample}
 use Rattle.attempt.specs.Attempt.{Ended, executedOf, resetOf, outputsOf, attemptOf}
-use Rattle.attempt.specs.Effect.{Effected, pairOf, jumpedOf, literalEffect, registerEffect, effectOf}
-use Rattle.attempt_laws.proofs.Choice.{end, _also_, pick-all, ranged-all}
+use Rattle.attempt.specs.Effect.{Effected, jumpedOf, literalEffect, registerEffect, effectOf}
+use Rattle.choose.proofs.Choice.{pick-all}
 use Rattle.attempt_laws.proofs.Files.{FileInRange, register-byte}
 use Rattle.attempt_laws.proofs.Registers.{literal-in-range, registers-in-range}
 use Rattle.attempt_laws.proofs.Control.{BusInRange, RequestInRange, LatchesInRange, WayInRange, AddressInRange, bus-in-range, request-in-range, used-in-range, latches-in-range, way-in-range, address-in-range}
 use Rattle.attempt_laws.proofs.Cases.{attempt-all}
+use Rattle.code.specs.Word.{Fit, jump, conditional, literal, register, WellFormed}
 
--- ---- the state by its rooms
+-- ---- the state by its parts
 
 whole : (xs : List ℕ) (f : Flags) (a : Address) (b : Bus) (l : Latches) → FileInRange xs → AddressInRange a → BusInRange b → LatchesInRange l
     → InRange xs (record { flags = f; address = a; bus = b; latches = l })
 whole xs f a b l x y z w =
     record {
       size = x .size;
-      bytes = x .bytes;
+      bytes = bytes-each xs (x .bytes);
       g = w .g;
       lc = y .lc;
       rr = y .rr;
@@ -54,7 +54,7 @@ whole xs f a b l x y z w =
 
 module _ (xs : List ℕ) (k : Core) (h : InRange xs k) where
   file-part : FileInRange xs
-  file-part = record { size = h .size; bytes = h .bytes }
+  file-part = record { size = h .size; bytes = byte-below xs (h .bytes) }
 
   address-part : AddressInRange (k .address)
   address-part = record { lc = h .lc; rr = h .rr; tsr = h .tsr }
@@ -101,7 +101,7 @@ module _ (xs : List ℕ) (k : Core) (s : Sample) (code : ℕ) (h : InRange xs k)
         request = omega arith;
       }
 
-  pair-in-range : (b a : ℕ) → pairOf (registerOf xs (k .latches .g) b) (registerOf xs (k .latches .g) a) < 65536
+  pair-in-range : (b a : ℕ) → pairOf (registerOf xs (k .latches .g) a) (registerOf xs (k .latches .g) b) < 65536
   pair-in-range b a =
       let file = file-part xs k h in
       omega (arith, register-byte xs (k .latches .g) b file, register-byte xs (k .latches .g) a file)
@@ -126,26 +126,17 @@ module _ (xs : List ℕ) (k : Core) (s : Sample) (code : ℕ) (h : InRange xs k)
 
 -- ---- an executed word
 
-cycles-le : (code : ℕ) → cyclesOf code ≤ 2
-unfolding cyclesOf
-cycles-le code = ranged-all (λ (n : ℕ). n ≤ 2) code _ (omega arith also omega arith also omega arith also end) (omega arith)
-
-module _ (xs : List ℕ) (k : Core) (s : Sample) (o : Outputs) (w : Fields) where
-  executed-cycles : executedOf xs k w s o .outcome .cycles ≤ 2
+module _ (xs : List ℕ) (k : Core) (s : Sample) (o : Outputs) (w : Fields) (h : InRange xs k) (d : SampleInRange s) (f : WellFormed w) where
+  pub executed-request : RequestInRange (executedOf xs k w s o .outcome .request)
   unfolding executedOf
-  executed-cycles = cycles-le (w .code)
+  executed-request = effect-in-range xs k s (w .code) h d (f .fitting) .request
 
-  module _ (h : InRange xs k) (d : SampleInRange s) (f : WellFormed w) where
-    pub executed-request : RequestInRange (executedOf xs k w s o .outcome .request)
-    unfolding executedOf
-    executed-request = effect-in-range xs k s (w .code) h d (f .fitting) .request
-
-    executed-in-range : OutputsInRange o → InRange (executedOf xs k w s o .file) (executedOf xs k w s o .outcome .core)
-    unfolding executedOf
-    executed-in-range p =
-        let e = effect-in-range xs k s (w .code) h d (f .fitting) in
-        let a = address-in-range (k .address) o (address-part xs k h) p _ (w .code) (w .«load_rr») (e .way) in
-        whole _ _ _ _ _ (e .file) a (e .bus) (e .latches)
+  executed-in-range : OutputsInRange o → InRange (executedOf xs k w s o .file) (executedOf xs k w s o .outcome .core)
+  unfolding executedOf
+  executed-in-range p =
+      let e = effect-in-range xs k s (w .code) h d (f .fitting) in
+      let a = address-in-range (k .address) o (address-part xs k h) p _ (w .code) (w .«load_rr») (e .way) in
+      whole _ _ _ _ _ (e .file) a (e .bus) (e .latches)
 
 -- ---- an attempt
 
@@ -179,16 +170,4 @@ module _ (ws : List ℕ) (rs : List Row) (xs : List ℕ) (k : Core) (s : Sample)
         resets = omega arith;
         stops = omega arith;
         executes = λ w f. omega (arith, executed-request xs k s (outputsOf ws rs k s) w h d f);
-      })
-
-  -- at most 2 microcycles, whatever is handed in
-  pub attempt-cycles : attemptOf ws rs xs k s .outcome .cycles ≤ 2
-  attempt-cycles =
-      attempt-all (λ (e : Ended). e .outcome .cycles ≤ 2) ws rs xs k s
-      (record {
-        refuses = λ n. omega arith;
-        waits = omega arith;
-        resets = omega arith;
-        stops = omega arith;
-        executes = λ w f. executed-cycles xs k s _ w;
       })

@@ -1,20 +1,19 @@
 -- The register file stays in range whatever instruction is executed: by its plan, and by the byte that it stores.
 -- Assumes nothing.
-use Prim.Native.Nat.{ℕ, _/_, _%_, _<_, _≤_}
+use Prim.Native.Nat.{ℕ, _/_, _%_, _<_}
 use mathlib.Core.Bool.{Bool, false}
 use mathlib.Core.List.{List}
 use native.Mathlib.Omega.{arith}
 use lib.Dec.{T, eqb, ltb, lt→ltb}
 use Rattle.alu.specs.declared.Flags.{Flags}
-use Rattle.alu.proofs.Laws.{bit-le}
 use Rattle.state.specs.File.{highOf}
-use Rattle.state.specs.FlagByte.{nibbleOf, flagByteOf}
+use Rattle.state.proofs.Digits.{flag-byte-below}
 use Rattle.state.specs.declared.Core.{Core}
 use Rattle.cycles.specs.Cycles.{Made}
 use Rattle.cycles.specs.declared.Plan.{Plan}
-use Rattle.plan.specs.Plan.{plans, planOf, goesOf, literalPlanOf}
+use Rattle.plan.specs.Plan.{plans, planOf, conditionMet, literalPlanOf}
 use Rattle.execute.specs.Execute.{names, literalOf, copiedOf, steppedByOf, seventiesOf, workedOf, workOf, upperOf, selectedOf, inputOf, accessOf, registersOf}
-use Rattle.attempt_laws.proofs.Choice.{end, _also_, pick-all, ranged-all, tested}
+use Rattle.choose.proofs.Choice.{end, _also_, pick-all, ranged-all, tested}
 use Rattle.attempt_laws.proofs.Files.{FileInRange, planFits, written-in-range, one-cycle-in-range, two-cycles-in-range}
 
 -- ---- plans
@@ -32,15 +31,6 @@ unfolding literalPlanOf
 literal-plan-fits code v t = ranged-all Fits code _ (t also t also t also end) t
 
 -- ---- what is stored
-
-nibble-le : (a b c d : Bool) → nibbleOf a b c d ≤ 15
-unfolding nibbleOf
-nibble-le a b c d = omega (arith, bit-le a, bit-le b, bit-le c, bit-le d)
-
-flag-byte : (f : Flags) → flagByteOf f < 256
-unfolding flagByteOf
-flag-byte f =
-    omega (arith, nibble-le (f .n) (f .z) (f .v) (f .c), nibble-le (f .nb) (f .zb) (f .c4) (f .c8))
 
 selected-fits : (dal m b : ℕ) → dal < 65536 → selectedOf dal m b < 65536
 unfolding selectedOf
@@ -60,7 +50,7 @@ module _ (xs : List ℕ) (g : ℕ) (f : Flags) (h : FileInRange xs) where
 
   copied-in-range : (a : ℕ) → Keeps (copiedOf xs g f a)
   unfolding copiedOf
-  copied-in-range a = written-in-range xs g a _ h (flag-byte f)
+  copied-in-range a = written-in-range xs g a _ h (flag-byte-below f)
 
   stepped-by-in-range : (a by : ℕ) → T (ltb by 65536) → Keeps (steppedByOf xs g f a by)
   unfolding steppedByOf
@@ -81,7 +71,7 @@ module _ (xs : List ℕ) (g : ℕ) (f : Flags) (h : FileInRange xs) where
 
   work-in-range : (ics : Bool) (code b a : ℕ) → Keeps (workOf xs g f ics code b a)
   unfolding workOf
-  work-in-range ics code b a = pick-all Keeps (goesOf code (f .c) ics) _ _ (worked-in-range code b a) h
+  work-in-range ics code b a = pick-all Keeps (conditionMet code (f .c) ics) _ _ (worked-in-range code b a) h
 
   input-in-range : (code dal m b a : ℕ) → dal < 65536 → Keeps (inputOf xs g f code dal m b a)
   unfolding inputOf

@@ -2,7 +2,7 @@
 -- microinstruction". The conditions are 01's own lists, of the word's bits: they use none of the engine's tables.
 use Prim.Native.Nat.{ℕ, _*_, _/_, _%_}
 use mathlib.Core.Path.{_≡_}
-use mathlib.Core.Bool.{Bool, not, _&&_, _||_}
+use mathlib.Core.Bool.{Bool, false, not, _&&_, _||_}
 use mathlib.Core.List.{List, [], _∷_}
 use lib.Dec.{eqb, leb, ltb}
 use lib.ListN.{length}
@@ -13,7 +13,8 @@ use Rattle.code.specs.declared.Fields.{Fields}
 use Rattle.rows.specs.declared.Outputs.{Outputs}
 use Rattle.state.specs.declared.Core.{Core}
 use Rattle.state.specs.declared.Sample.{Sample}
-use Rattle.attempt.specs.Attempt.{Ended, ended, outcomeOf, executedOf, resetOf, wordAt, modifiedOf}
+use Rattle.attempt.specs.Attempt.{Ended, ended, outcomeOf, executedOf, resetOf, modifiedOf}
+use Rattle.numbers.specs.Numbers.{wordAt}
 
 pub data Fate : Type 0 where
   refused : ℕ → Fate
@@ -37,9 +38,18 @@ noCode code =
     within 0x78 0x7F code || eqb code 0xAD || within 0xD4 0xD7 code || within 0xE8 0xEB code ||
     eqb code 0xAC
 
--- the two-cycle codes 82-DF have bit 1 set; IW is E2 and E3, ISW E6 and E7
+abbrev pub oneOf : ℕ → List ℕ → Bool
+oneOf code [] = false
+oneOf code (c ∷ cs) = eqb code c || oneOf code cs
+
+-- the even ones of 5.3.2's two-cycle codes 82-DF, from MW, CMW, SLWC, SLW to SRWC, SRW; IW is E2 and E3, ISW E6 and E7
+abbrev pub evenWords : List ℕ
+evenWords =
+    0x82 ∷ 0x86 ∷ 0x8A ∷ 0x8E ∷ 0x92 ∷ 0x96 ∷ 0x9A ∷ 0x9E ∷ 0xA2 ∷ 0xA6 ∷ 0xAA ∷ 0xAE ∷ 0xB2 ∷ 0xB6 ∷ 0xBA ∷ 0xBE ∷
+    0xC2 ∷ 0xC6 ∷ 0xCA ∷ 0xCE ∷ 0xD2 ∷ 0xDA ∷ 0xDE ∷ []
+
 abbrev pub twoCycle : ℕ → Bool
-twoCycle code = within 0x82 0xDF code && odd (code / 2)
+twoCycle code = oneOf (code / 2 * 2) evenWords
 
 abbrev pub inputWord : ℕ → Bool
 inputWord code = within 0xE2 0xE3 code || within 0xE6 0xE7 code

@@ -1,1 +1,3 @@
 pub mod Fate
+pub mod Frame
+pub mod Starred

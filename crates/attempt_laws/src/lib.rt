@@ -1,1 +1,1 @@
-// Laws of one attempt, which are about all rooms together: no code.
+// Laws of one attempt, which are about all parts of the state together: no code.

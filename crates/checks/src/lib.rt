@@ -3,7 +3,7 @@ use code::Operands;
 use state::Sample;
 ghost use mathlib.Core.Path.{_≡_};
 ghost use Rattle.code.specs.Rows.{cyclesOf, pairsOf, waitsOf, optionsOf};
-ghost use Rattle.checks.specs.Checks.{oddOf, ofTwo, refusalOf, waitingOf};
+ghost use Rattle.checks.specs.Checks.{oddDesignatorOf, designatorRefusalOf, wordRefusalOf, waitingOf};
 
 pub fn cycles(code: u8) -> u8
     ensures { λ r. ⌜ r ≡ cyclesOf code ⌝ }
@@ -52,20 +52,20 @@ fn waits(code: u8) -> u8
 }
 
 // An odd designator where a pair is needed: bit 0 of the row's pairs asks for a, bit 1 for b.
-fn odd(code: u8, b: u8, a: u8) -> bool
-    ensures { λ r. ⌜ r ≡ oddOf code b a ⌝ }
+fn odd_designator(code: u8, b: u8, a: u8) -> bool
+    ensures { λ r. ⌜ r ≡ oddDesignatorOf code b a ⌝ }
 {
     let p = pairs(code);
     ((p % 2 == 1) & (a % 2 == 1)) | ((p / 2 == 1) & (b % 2 == 1))
 }
 
-fn of_two(code: u8, b: u8, a: u8) -> u8
-    ensures { λ r. ⌜ r ≡ ofTwo code b a ⌝ }
+fn designator_refusal(code: u8, b: u8, a: u8) -> u8
+    ensures { λ r. ⌜ r ≡ designatorRefusalOf code b a ⌝ }
 {
     if code == 0xAC {
         return 6;
     }
-    if odd(code, b, a) {
+    if odd_designator(code, b, a) {
         return 7;
     }
     if options(code) < b {
@@ -76,12 +76,12 @@ fn of_two(code: u8, b: u8, a: u8) -> u8
 
 // 0, or the number of the refusal.
 pub fn refusal(code: u8, operands: Operands) -> u8
-    ensures { λ r. ⌜ r ≡ refusalOf code operands ⌝ }
+    ensures { λ r. ⌜ r ≡ wordRefusalOf code operands ⌝ }
 {
     match operands {
         Operands::Jump(_) => 0,
         Operands::Literal { value: _, reg: _ } => 0,
-        Operands::Two { b, a } => of_two(code, b, a),
+        Operands::Two { b, a } => designator_refusal(code, b, a),
     }
 }
 

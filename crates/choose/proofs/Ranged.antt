@@ -8,7 +8,7 @@ use lib.Dec.{T, leb, leb→le}
 use lib.ListN.{length}
 use borrow.Author.Tests.{lt-ltb, le-ltb}
 use Rattle.choose.specs.Ranged.{ranged}
-use Rattle.choose.proofs.Table.{both-left, both-right}
+use Rattle.choose.proofs.Tests.{both-left, both-right}
 
 module _ {A : Type 0} where
   -- the first i arms end at lo or below

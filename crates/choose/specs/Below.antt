@@ -29,7 +29,8 @@ abbrev pub every : (ℕ → ℕ → Bool) → ℕ → List ℕ → Bool
 every f i [] = true
 every f i (x ∷ xs) = f i x && every f (suc i) xs
 
--- f of i, i + 1, .., n of them
-abbrev pub firsts : (ℕ → ℕ) → ℕ → ℕ → List ℕ
-firsts f i zero = []
-firsts f i (suc n) = f i ∷ firsts f (suc i) n
+module _ {A : Type 0} where
+  -- f of i, i + 1, .., n of them
+  abbrev pub firsts : (ℕ → A) → ℕ → ℕ → List A
+  firsts f i zero = []
+  firsts f i (suc n) = f i ∷ firsts f (suc i) n

@@ -4,6 +4,11 @@ use mathlib.Core.Bool.{Bool, true, false}
 use mathlib.Core.List.{List, [], _∷_}
 use lib.Dec.{ltb}
 
+-- a test as a number
+abbrev pub bit : Bool → ℕ
+bit true = 1
+bit false = 0
+
 module _ {A : Type 0} where
   -- the first where the test holds, else the second
   abbrev pub pick : Bool → A → A → A

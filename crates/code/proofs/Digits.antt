@@ -1,14 +1,14 @@
 -- The entry of each top byte says its row: one test that antt computes over all 256, digit by digit, and the law that makes it rows.
 use Prim.Native.Nat.{ℕ, _/_, _%_, _<_}
 use mathlib.Core.Path.{_≡_, refl, _∙_, sym}
-use mathlib.Core.Bool.{Bool, true, false}
 use mathlib.Core.List.{List, [], _∷_}
-use lib.Dec.{T, eqb}
+use lib.Dec.{T}
 use lib.ListN.{getD}
-use Rattle.choose.specs.Ranged.{ranged, pick}
+use Rattle.choose.specs.Ranged.{bit, ranged}
 use Rattle.choose.specs.Below.{allEqual}
 use Rattle.choose.proofs.Table.{all-equal, at}
-use Rattle.code.specs.Rows.{numberIn, classAt, rowAt, entries, rowOf, classOf, cyclesOf, pairsOf, waitsOf, optionsOf, statusOf, conditionOf, storesOf}
+use Rattle.choose.proofs.Tests.{is-bit}
+use Rattle.code.specs.Rows.{classNumber, classAt, rowOfEntry, entries, rowOf, classOf, cyclesOf, pairsOf, waitsOf, optionsOf, statusFlagsOf, conditionFlagsOf, storesOf}
 use Rattle.code.specs.Word.{codeOf}
 use Rattle.code.specs.declared.Class.{Class}
 use Rattle.code.specs.declared.Row.{Row}
@@ -16,16 +16,16 @@ use Rattle.code.specs.declared.Row.{Row}
 -- each digit of an entry, beside the field that it has to be
 abbrev digits : Row → ℕ → List (ℕ × ℕ)
 digits r n =
-    (n % 0x10, numberIn (r .class)) ∷
+    (n % 0x10, classNumber (r .class)) ∷
     (n / 0x10 % 0x10, r .cycles) ∷
     (n / 0x100 % 0x10, r .pairs) ∷
     (n / 0x1000 % 0x10, r .waits) ∷
     (n / 0x1_0000 % 0x10, r .options) ∷
     (n / 0x10_0000 % 0x100, r .flags) ∷
-    (n / 0x1000_0000, pick (r .stores) 1 0) ∷
+    (n / 0x1000_0000, bit (r .stores)) ∷
     []
 
-pub numbered : (k : Class) → classAt (numberIn k) ≡ k
+pub numbered : (k : Class) → classAt (classNumber k) ≡ k
 unfolding classAt ranged
 numbered Class.Unlisted = refl
 numbered Class.Jump = refl
@@ -33,24 +33,20 @@ numbered Class.Conditional = refl
 numbered Class.Literal = refl
 numbered Class.Register = refl
 
-one : (b : Bool) → eqb (pick b 1 0) 1 ≡ b
-one true = refl
-one false = refl
-
-by-digits : (r : Row) (n : ℕ) → T (allEqual (digits r n)) → rowAt n ≡ r
-unfolding rowAt
+by-digits : (r : Row) (n : ℕ) → T (allEqual (digits r n)) → rowOfEntry n ≡ r
+unfolding rowOfEntry
 by-digits r n t =
     let e = all-equal (digits r n) t in
-    rw (e .0, numbered, e .1 .0, e .1 .1 .0, e .1 .1 .1 .0, e .1 .1 .1 .1 .0, e .1 .1 .1 .1 .1 .0, e .1 .1 .1 .1 .1 .1 .0, one)
+    rw (e .0, numbered, e .1 .0, e .1 .1 .0, e .1 .1 .1 .0, e .1 .1 .1 .1 .0, e .1 .1 .1 .1 .1 .0, e .1 .1 .1 .1 .1 .1 .0, is-bit (r .stores) _ refl)
 
 -- what a reader of the table gets
-pub row-at : (top : ℕ) → top < 0x100 → rowAt (getD entries top 0) ≡ rowOf top
-unfolding entries rowOf classOf ranged cyclesOf pairsOf waitsOf optionsOf statusOf conditionOf storesOf
+pub row-at : (top : ℕ) → top < 0x100 → rowOfEntry (getD entries top 0) ≡ rowOf top
+unfolding entries rowOf classOf ranged cyclesOf pairsOf waitsOf optionsOf statusFlagsOf conditionFlagsOf storesOf
 row-at top h = by-digits (rowOf top) (getD entries top 0) (at (λ k n. allEqual (digits (rowOf k) n)) entries tt top h)
 
 -- all top bytes of an instruction have the row of its first
 pub row-of-code : (top : ℕ) → top < 0x100 → rowOf (codeOf top) ≡ rowOf top
-unfolding entries codeOf rowOf classOf ranged cyclesOf pairsOf waitsOf optionsOf statusOf conditionOf storesOf
+unfolding entries codeOf rowOf classOf ranged cyclesOf pairsOf waitsOf optionsOf statusFlagsOf conditionFlagsOf storesOf
 row-of-code top h =
     sym (by-digits (rowOf (codeOf top)) (getD entries top 0) (at (λ k n. allEqual (digits (rowOf (codeOf k)) n)) entries tt top h))
     ∙ row-at top h

@@ -1,20 +1,20 @@
 -- What holds of every word and all fields: from the two ways in Words.antt, and by tests that antt computes over the 256 top bytes.
 use Prim.Native.Nat.{ℕ, _<_}
 use mathlib.Core.Path.{_≡_, refl}
-use mathlib.Core.Bool.{Bool, true, false, not, _&&_, _||_, Bool·beq}
-use mathlib.Core.List.{List, [], _∷_}
+use mathlib.Core.Bool.{Bool, true, false, not, _&&_, Bool·beq}
 use mathlib.Core.Logic.{_↔_}
 use native.Mathlib.Omega.{arith}
-use lib.Dec.{T, eqb, ltb}
+use lib.Dec.{eqb, ltb}
 use Rattle.choose.specs.Ranged.{pick, ranged}
 use Rattle.choose.specs.Below.{countBelow}
 use Rattle.choose.proofs.Table.{below}
-use Rattle.code.specs.Rows.{classOf, listed}
-use Rattle.code.specs.Word.{topOf, codeOf, fieldsIn, apartOf, numberOf, wellFormed, wordOf, togetherOf}
+use Rattle.choose.proofs.Tests.{equal-tests}
+use Rattle.code.specs.Rows.{classOf, listed, unlisted, among}
+use Rattle.code.specs.Word.{topOf, codeOf, fieldsIn, apartOf, numberOf, wellFormed, wordOf, togetherOf, WellFormed}
 use Rattle.code.specs.declared.Fields.{Fields}
 use Rattle.code.specs.declared.Apart.{Apart}
 use Rattle.code.specs.declared.Together.{Together}
-use Rattle.code.proofs.Words.{apart-is, is-apart, own-well-formed, own-word, WellFormed, well-formed-says, word-apart}
+use Rattle.code.proofs.Words.{apart-is, is-apart, own-well-formed, own-word, well-formed-says, word-apart}
 
 -- a word that was taken apart goes together again
 pub apart-together : (w : ℕ) (f : Fields) → apartOf w ≡ Apart.Word f → togetherOf f ≡ Together.Word w
@@ -77,20 +77,7 @@ pub apart-code : (w : ℕ) (f : Fields) → apartOf w ≡ Apart.Word f → f .co
 unfolding codeOf fieldsIn
 apart-code w f e = let (h, l, q) = apart-is w f e in rw (← q)
 
--- 01: "unlisted are 78-7F, AD, D4-D7 and E8-EB, 17 in all"
-abbrev pub unlisted : List ℕ
-unlisted = 0x78 ∷ 0x79 ∷ 0x7A ∷ 0x7B ∷ 0x7C ∷ 0x7D ∷ 0x7E ∷ 0x7F ∷ 0xAD ∷ 0xD4 ∷ 0xD5 ∷ 0xD6 ∷ 0xD7 ∷ 0xE8 ∷ 0xE9 ∷ 0xEA ∷ 0xEB ∷ []
-
-abbrev pub among : ℕ → List ℕ → Bool
-among x [] = false
-among x (y ∷ ys) = eqb x y || among x ys
-
-equal-tests : (a b : Bool) → T (Bool·beq a b) → a ≡ b
-equal-tests true true t = refl
-equal-tests true false t = absurd t
-equal-tests false true t = absurd t
-equal-tests false false t = refl
-
+-- 01: "17 in all"
 pub unlisted-17 : countBelow 0x100 (λ top. not (listed (classOf top))) ≡ 17
 unfolding classOf ranged
 unlisted-17 = refl

@@ -1,12 +1,13 @@
 -- The arithmetic of an instruction as its code and its operands' bits: one lemma for each fact, over the class.
-use Prim.Native.Nat.{ℕ, zero, suc, _+_, _*_, _/_, _%_, _<_}
+use Prim.Native.Nat.{ℕ, _+_, _*_, _/_, _%_, _<_}
 use mathlib.Core.Path.{_≡_, refl, _∙_, sym, ap}
-use mathlib.Core.Bool.{Bool, true, false, _&&_, false≢true}
+use mathlib.Core.Bool.{true, false≢true}
 use native.Mathlib.Omega.{arith}
-use lib.Dec.{ltb, eqb}
+use lib.Dec.{ltb}
 use borrow.Author.Tests.{lt-ltb, ltb-true, eqb-true}
-use Rattle.code.specs.Rows.{listed, numberIn, classAt}
-use Rattle.code.specs.Word.{topOf, codeIn, operandsIn, fitsIn, reachOf, same, lowOf, bit}
+use Rattle.code.specs.Rows.{listed, classNumber, classAt}
+use Rattle.choose.proofs.Tests.{both-true}
+use Rattle.code.specs.Word.{topOf, codeIn, operandsIn, fitsIn, reachOf, same, lowOf, Fit, jump, conditional, literal, register}
 use Rattle.code.specs.declared.Class.{Class}
 use Rattle.code.specs.declared.Operands.{Operands}
 use Rattle.code.proofs.Digits.{numbered}
@@ -73,16 +74,6 @@ back k c l a b u room e r ha hb hu =
       below = omega arith;
     }
 
--- a bit as a number, and back
-pub bit-two : (x : ℕ) → x < 2 → bit (eqb x 1) ≡ x
-bit-two zero h = refl
-bit-two (suc zero) h = refl
-bit-two (suc (suc x)) h = absurd (omega arith)
-
-pub two-bit : (b : Bool) → (bit b < 2) × (eqb (bit b) 1 ≡ b)
-two-bit true = (omega arith, refl)
-two-bit false = (omega arith, refl)
-
 -- the bits above the instruction
 high-bits : (x : ℕ) → x < 0x40 → x % 2 * 0x1_0000 + x / 2 % 2 * 0x2_0000 + x / 4 % 0x10 * 0x4_0000 ≡ x * 0x1_0000
 high-bits x h =
@@ -116,20 +107,8 @@ low-own Class.Conditional w e = refl
 low-own Class.Literal w e = omega arith
 low-own Class.Register w e = omega arith
 
--- both tests of an && hold
-pub both-true : (a b : Bool) → a && b ≡ true → (a ≡ true) × (b ≡ true)
-both-true true b e = (refl, e)
-both-true false b e = absurd (false≢true e)
-
 pub same-class : (k l : Class) → same k l ≡ true → k ≡ l
-same-class k l e = sym (numbered k) ∙ ap classAt (eqb-true (numberIn k) (numberIn l) e) ∙ numbered l
-
--- the four kinds of operands that fit
-pub data Fit : Class → Operands → Type 0 where
-  jump : {n : ℕ} → n < 0x800 → Fit Class.Jump (Operands.Jump n)
-  conditional : {n : ℕ} → n < 0x100 → Fit Class.Conditional (Operands.Jump n)
-  literal : {v r : ℕ} → v < 0x100 → r < 0x10 → Fit Class.Literal (Operands.Literal v r)
-  register : {b a : ℕ} → b < 0x10 → a < 0x10 → Fit Class.Register (Operands.Two b a)
+same-class k l e = sym (numbered k) ∙ ap classAt (eqb-true (classNumber k) (classNumber l) e) ∙ numbered l
 
 fit-jump : (k : Class) (n : ℕ) → ltb n (reachOf k) ≡ true → Fit k (Operands.Jump n)
 fit-jump Class.Unlisted n e = absurd (omega (arith, ltb-true n 0 e))

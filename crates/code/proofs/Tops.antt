@@ -2,20 +2,17 @@
 use Prim.Native.Nat.{ℕ, _+_, _<_}
 use mathlib.Core.Path.{_≡_, refl}
 use mathlib.Core.Bool.{Bool, true, false, false≢true}
-use lib.Dec.{T, ltb}
+use lib.Dec.{ltb}
 use borrow.Author.Tests.{ltb-true, ltb-false}
 use Rattle.choose.specs.Ranged.{ranged}
 use Rattle.choose.specs.Below.{allBelow}
 use Rattle.choose.proofs.Ranged.{in-rest}
 use Rattle.choose.proofs.Table.{below}
+use Rattle.choose.proofs.Tests.{holds}
 use Rattle.code.specs.Rows.{classOf, classes, listed}
 use Rattle.code.specs.Word.{codeOf, same}
 use Rattle.code.specs.declared.Class.{Class}
 use Rattle.code.proofs.Shape.{strideOf, same-class}
-
-holds : (b : Bool) → T b → b ≡ true
-holds true t = refl
-holds false t = absurd t
 
 -- what is past 255 is unlisted
 pub listed-below : (top : ℕ) → listed (classOf top) ≡ true → top < 0x100

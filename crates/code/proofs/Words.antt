@@ -5,14 +5,15 @@ use mathlib.Core.Bool.{Bool, true, false}
 use native.Mathlib.Omega.{arith}
 use lib.Dec.{ltb}
 use borrow.Author.Tests.{lt-ltb, ltb-true, eq-eqb, eqb-true}
-use Rattle.choose.specs.Ranged.{pick}
-use Rattle.code.specs.Rows.{classOf, listed, numberIn}
-use Rattle.code.specs.Word.{topOf, codeOf, codeIn, fieldsIn, apartOf, wellFormed, lowOf, bit, wordOf}
+use Rattle.choose.specs.Ranged.{bit, pick}
+use Rattle.code.specs.Rows.{classOf, listed, classNumber}
+use Rattle.choose.proofs.Tests.{both-true, bit-le, is-bit, bit-is}
+use Rattle.code.specs.Word.{topOf, codeOf, codeIn, fieldsIn, apartOf, wellFormed, lowOf, wordOf, WellFormed, Fit}
 use Rattle.code.specs.declared.Class.{Class}
 use Rattle.code.specs.declared.Operands.{Operands}
 use Rattle.code.specs.declared.Fields.{Fields}
 use Rattle.code.specs.declared.Apart.{Apart}
-use Rattle.code.proofs.Shape.{strideOf, split, code-twice, code-back, back, high, bit-two, two-bit, fits-own, low-own, both-true, same-class, Fit, fit, fit-listed, fit-room, read-back}
+use Rattle.code.proofs.Shape.{strideOf, split, code-twice, code-back, back, high, fits-own, low-own, same-class, fit, fit-listed, fit-room, read-back}
 use Rattle.code.proofs.Tops.{listed-below, class-of-code, class-kept}
 
 -- the class of a word, and the fields that it has
@@ -43,7 +44,7 @@ own-well-formed w e =
     let k = classIn w in
     rw (
       class-of-code (topOf w) (omega arith),
-      eq-eqb (numberIn k) (numberIn k) refl,
+      eq-eqb (classNumber k) (classNumber k) refl,
       eq-eqb _ _ (code-twice k (topOf w)),
       fits-own k w e,
       lt-ltb (w / 0x4_0000 % 0x10) 0x10 (omega arith),
@@ -54,14 +55,7 @@ pub own-word : (w : ℕ) → w < 0x40_0000 → listed (classIn w) ≡ true → w
 unfolding wordOf fieldsIn
 own-word w h e =
     let k = classIn w in
-    rw (low-own k w e, split k w, bit-two (w / 0x1_0000 % 2) (omega arith), bit-two (w / 0x2_0000 % 2) (omega arith)) (high w h)
-
--- what the test of well-formed fields says
-pub record WellFormed (f : Fields) : Type 0 where
-  pub own : f .class ≡ classOf (f .code)
-  pub first : codeIn (f .class) (f .code) ≡ f .code
-  pub fitting : Fit (f .class) (f .operands)
-  pub in-range : f .user < 0x10
+    rw (low-own k w e, split k w, bit-is (w / 0x1_0000 % 2) (omega arith), bit-is (w / 0x2_0000 % 2) (omega arith)) (high w h)
 
 pub well-formed-says : (f : Fields) → wellFormed f ≡ true → WellFormed f
 unfolding wellFormed
@@ -95,7 +89,7 @@ module _ (k : Class) (c : ℕ) (o : Operands) (own : k ≡ classOf c) (first : c
       let l = lowOf o in
       let w = l + c * 0x100 + bit a * 0x1_0000 + bit b * 0x2_0000 + u * 0x4_0000 in
       let page : c + l / 0x100 < 0x100 = listed-below (c + l / 0x100) (rw class-back (fit-listed g)) in
-      let s = back k c l (bit a) (bit b) u (omega arith) first (fit-room g) (two-bit a .0) (two-bit b .0) h in
+      let s = back k c l (bit a) (bit b) u (omega arith) first (fit-room g) (omega (arith, bit-le a)) (omega (arith, bit-le b)) h in
       let there : classIn w ≡ k = ap classOf (s .top) ∙ class-back in
       is-apart w (s .below) (rw there (fit-listed g))
       ∙ rw (
@@ -106,8 +100,8 @@ module _ (k : Class) (c : ℕ) (o : Operands) (own : k ≡ classOf c) (first : c
         s .rr,
         s .rni,
         s .user,
-        two-bit a .1,
-        two-bit b .1,
+        is-bit a _ refl,
+        is-bit b _ refl,
       )
 
 pub word-apart : (f : Fields) → wellFormed f ≡ true → apartOf (wordOf f) ≡ Apart.Word f

@@ -1,9 +1,9 @@
 -- The row of each top byte, by ranges: manual 5.2 and 5.3.2 as 01 corrects them (B6/B7 are CW, BC-BF DB1 and DW1).
 use Prim.Native.Nat.{ℕ, _+_, _*_, _/_, _%_}
-use mathlib.Core.Bool.{Bool, true, false}
+use mathlib.Core.Bool.{Bool, true, false, _||_}
 use mathlib.Core.List.{List, [], _∷_}
 use lib.Dec.{eqb}
-use Rattle.choose.specs.Ranged.{pick, ranged}
+use Rattle.choose.specs.Ranged.{bit, pick, ranged}
 use Rattle.choose.specs.Below.{firsts}
 use Rattle.code.specs.declared.Class.{Class}
 use Rattle.code.specs.declared.Row.{Row}
@@ -34,6 +34,14 @@ listed Class.Jump = true
 listed Class.Conditional = true
 listed Class.Literal = true
 listed Class.Register = true
+
+-- the same as a list, and a number that is one of a list
+abbrev pub unlisted : List ℕ
+unlisted = 0x78 ∷ 0x79 ∷ 0x7A ∷ 0x7B ∷ 0x7C ∷ 0x7D ∷ 0x7E ∷ 0x7F ∷ 0xAD ∷ 0xD4 ∷ 0xD5 ∷ 0xD6 ∷ 0xD7 ∷ 0xE8 ∷ 0xE9 ∷ 0xEA ∷ 0xEB ∷ []
+
+abbrev pub among : ℕ → List ℕ → Bool
+among x [] = false
+among x (y ∷ ys) = eqb x y || among x ys
 
 -- 1 for the word codes among the register codes 80-F7: bit 1 of the top byte
 abbrev pub wordBit : ℕ → ℕ
@@ -70,8 +78,8 @@ unfoldable pub optionsOf : ℕ → ℕ
 optionsOf top = ranged top ((0xE0, 15) ∷ (0xE4, 7) ∷ (0xE6, 3) ∷ []) 15
 
 -- NB ZB C4 C8, bits 3-0, as 5.3.2 marks them: all four, NB and ZB, or none
-unfoldable pub statusOf : ℕ → ℕ
-statusOf top =
+unfoldable pub statusFlagsOf : ℕ → ℕ
+statusFlagsOf top =
     ranged top
     ((0x20, 0) ∷
     (0x30, 0x0F) ∷  -- AL
@@ -91,13 +99,13 @@ statusOf top =
     0
 
 -- N Z V C, bits 7-4, "only by LCF and odd codes 81-DF and E1-E7": such a code writes N Z V, and C where it writes C8
-unfoldable pub conditionOf : ℕ → ℕ
-conditionOf top =
+unfoldable pub conditionFlagsOf : ℕ → ℕ
+conditionFlagsOf top =
     ranged top
     ((0x73, 0) ∷
     (0x74, 0xF0) ∷  -- LCF
     (0x80, 0) ∷
-    (0xE8, top % 2 * (0xE0 + 0x10 * (statusOf top % 2))) ∷
+    (0xE8, top % 2 * (0xE0 + 0x10 * (statusFlagsOf top % 2))) ∷
     [])
     0
 
@@ -137,18 +145,18 @@ rowOf top =
       pairs = pairsOf top;
       waits = waitsOf top;
       options = optionsOf top;
-      flags = conditionOf top + statusOf top;
+      flags = conditionFlagsOf top + statusFlagsOf top;
       stores = storesOf top;
     })
     blank
 
 -- the number of a class, and the class of a number
-abbrev pub numberIn : Class → ℕ
-numberIn Class.Unlisted = 0
-numberIn Class.Jump = 1
-numberIn Class.Conditional = 2
-numberIn Class.Literal = 3
-numberIn Class.Register = 4
+abbrev pub classNumber : Class → ℕ
+classNumber Class.Unlisted = 0
+classNumber Class.Jump = 1
+classNumber Class.Conditional = 2
+classNumber Class.Literal = 3
+classNumber Class.Register = 4
 
 unfoldable pub classAt : ℕ → Class
 classAt n = ranged n ((1, Class.Unlisted) ∷ (2, Class.Jump) ∷ (3, Class.Conditional) ∷ (4, Class.Literal) ∷ []) Class.Register
@@ -156,16 +164,16 @@ classAt n = ranged n ((1, Class.Unlisted) ∷ (2, Class.Jump) ∷ (3, Class.Cond
 -- a row as one number, a hexadecimal digit for each field and two for the flags
 abbrev pub entryOf : Row → ℕ
 entryOf r =
-    numberIn (r .class) + 0x10 * r .cycles + 0x100 * r .pairs + 0x1000 * r .waits + 0x1_0000 * r .options + 0x10_0000 * r .flags +
-    0x1000_0000 * pick (r .stores) 1 0
+    classNumber (r .class) + 0x10 * r .cycles + 0x100 * r .pairs + 0x1000 * r .waits + 0x1_0000 * r .options + 0x10_0000 * r .flags +
+    0x1000_0000 * bit (r .stores)
 
 -- the rows of all 256 top bytes as numbers
 unfoldable pub entries : List ℕ
 entries = firsts (λ top. entryOf (rowOf top)) 0 0x100
 
 -- the row that such a number says
-unfoldable pub rowAt : ℕ → Row
-rowAt n =
+unfoldable pub rowOfEntry : ℕ → Row
+rowOfEntry n =
     record {
       class = classAt (n % 0x10);
       cycles = n / 0x10 % 0x10;

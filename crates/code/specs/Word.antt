@@ -1,9 +1,10 @@
 -- A word taken apart and put together: manual 5.2's formats with the bits of 5.3.2, and 01's bits 16-21.
-use Prim.Native.Nat.{ℕ, _+_, _*_, _/_, _%_}
+use Prim.Native.Nat.{ℕ, _+_, _*_, _/_, _%_, _<_}
+use mathlib.Core.Path.{_≡_}
 use mathlib.Core.Bool.{Bool, _&&_}
 use lib.Dec.{eqb, ltb}
-use Rattle.choose.specs.Ranged.{pick}
-use Rattle.code.specs.Rows.{classOf, listed, numberIn}
+use Rattle.choose.specs.Ranged.{bit, pick}
+use Rattle.code.specs.Rows.{classOf, listed, classNumber}
 use Rattle.code.specs.declared.Class.{Class}
 use Rattle.code.specs.declared.Operands.{Operands}
 use Rattle.code.specs.declared.Fields.{Fields}
@@ -59,7 +60,7 @@ numberOf Apart.OutOfRange = 2
 numberOf Apart.Unlisted = 6
 
 abbrev pub same : Class → Class → Bool
-same k l = eqb (numberIn k) (numberIn l)
+same k l = eqb (classNumber k) (classNumber l)
 
 -- how many addresses a jump of the class reaches
 abbrev pub reachOf : Class → ℕ
@@ -81,14 +82,25 @@ wellFormed f =
     same (f .class) (classOf (f .code)) && eqb (codeIn (f .class) (f .code)) (f .code) && fitsIn (f .class) (f .operands) &&
     ltb (f .user) 0x10
 
+-- the four kinds of operands that fit
+pub data Fit : Class → Operands → Type 0 where
+  jump : {n : ℕ} → n < 0x800 → Fit Class.Jump (Operands.Jump n)
+  conditional : {n : ℕ} → n < 0x100 → Fit Class.Conditional (Operands.Jump n)
+  literal : {v r : ℕ} → v < 0x100 → r < 0x10 → Fit Class.Literal (Operands.Literal v r)
+  register : {b a : ℕ} → b < 0x10 → a < 0x10 → Fit Class.Register (Operands.Two b a)
+
+-- what the test of well-formed fields says
+pub record WellFormed (f : Fields) : Type 0 where
+  pub own : f .class ≡ classOf (f .code)
+  pub first : codeIn (f .class) (f .code) ≡ f .code
+  pub fitting : Fit (f .class) (f .operands)
+  pub in-range : f .user < 0x10
+
 -- the operands' bits
 abbrev pub lowOf : Operands → ℕ
 lowOf (Operands.Jump n) = n
 lowOf (Operands.Literal v r) = v * 0x10 + r
 lowOf (Operands.Two b a) = b * 0x10 + a
-
-abbrev pub bit : Bool → ℕ
-bit b = pick b 1 0
 
 unfoldable pub wordOf : Fields → ℕ
 wordOf f =

@@ -1,9 +1,10 @@
 // The word taken apart and put together, and what its top byte alone decides.
+use choose::bit_of;
 ghost use mathlib.Core.Path.{_≡_};
 ghost use Prim.Native.Nat.{_<_};
 ghost use lib.ListN.{getD};
-ghost use Rattle.code.specs.Rows.{classOf, classAt, listed, numberIn, rowOf, rowAt, entries};
-ghost use Rattle.code.specs.Word.{codeIn, operandsIn, apartOf, same, reachOf, fitsIn, wellFormed, lowOf, bit, togetherOf};
+ghost use Rattle.code.specs.Rows.{classOf, classAt, listed, classNumber, rowOf, rowOfEntry, entries};
+ghost use Rattle.code.specs.Word.{codeIn, operandsIn, apartOf, same, reachOf, fitsIn, wellFormed, lowOf, togetherOf};
 
 mod table;
 
@@ -102,7 +103,7 @@ fn class_at(n: u32) -> Class
 
 // The row of a top byte in the table that `rows` gave.
 pub fn row_in(rows: &[u32; 256], top: u8) -> Row
-    ensures { λ r. ⌜ r ≡ rowAt (getD (now (rows .entry)) top 0) ⌝ }
+    ensures { λ r. ⌜ r ≡ rowOfEntry (getD (now (rows .entry)) top 0) ⌝ }
 {
     let i = top as usize;
     let n = rows[i];
@@ -190,8 +191,8 @@ pub fn taken_apart(word: u32) -> Apart
     })
 }
 
-fn number_in(class: Class) -> u8
-    ensures { λ r. ⌜ r ≡ numberIn class ⌝ }
+fn class_number(class: Class) -> u8
+    ensures { λ r. ⌜ r ≡ classNumber class ⌝ }
 {
     match class {
         Class::Unlisted => 0,
@@ -205,7 +206,7 @@ fn number_in(class: Class) -> u8
 fn is_same(x: Class, y: Class) -> bool
     ensures { λ r. ⌜ r ≡ same x y ⌝ }
 {
-    number_in(x) == number_in(y)
+    class_number(x) == class_number(y)
 }
 
 fn reach(class: Class) -> u16
@@ -250,12 +251,6 @@ fn low_of(operands: Operands) -> u32
     }
 }
 
-fn bit_of(b: bool) -> u32
-    ensures { λ r. ⌜ (r ≡ bit b) × (r < 2) ⌝ }
-{
-    b as u32
-}
-
 pub fn put_together(f: Fields) -> Together
     ensures { λ r. ⌜ r ≡ togetherOf f ⌝ }
 {
@@ -264,8 +259,8 @@ pub fn put_together(f: Fields) -> Together
     }
     let operands = f.operands;
     let low = low_of(operands);
-    let load_rr = bit_of(f.load_rr);
-    let rni = bit_of(f.rni);
+    let load_rr = bit_of(f.load_rr) as u32;
+    let rni = bit_of(f.rni) as u32;
     Together::Word(
         low
             + f.code as u32 * 0x100

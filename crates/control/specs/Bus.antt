@@ -1,29 +1,29 @@
 -- The bus after an executed instruction, and its request. 01, "One attempt" and "Codes, cycles and flags".
 use Prim.Native.Nat.{ℕ, _+_, _-_, _*_, _/_, _%_}
 use mathlib.Core.Bool.{Bool, true, false}
-use mathlib.Core.List.{List, [], _∷_}
+use mathlib.Core.List.{[], _∷_}
 use lib.Dec.{eqb}
 use Rattle.choose.specs.Ranged.{pick, ranged}
 use Rattle.state.specs.declared.Bus.{Bus}
 
-abbrev pub lines : ℕ → Bool → Bool → Bus
-lines m s i = record { m = m; sync = s; iack = i }
+abbrev pub busWith : ℕ → Bool → Bool → Bus
+busWith m s i = record { m = m; sync = s; iack = i }
 
 -- "IB, IW drop SYNC and IACK unless b is 4-7 (RMW)"
 unfoldable pub afterInput : Bus → ℕ → Bus
-afterInput h b = pick (eqb (b / 4 % 2) 1) h (lines (h .m) false false)
+afterInput h b = pick (eqb (b / 4 % 2) 1) h (busWith (h .m) false false)
 
 -- "Reads and writes set M and SYNC; RA, WA also IACK. OB, OW, OS set M. .. OB and OW drop them." The pair is Rb:Ra before any change
-unfoldable pub busOf : Bus → ℕ → ℕ → ℕ → Bus
-busOf h code b pair =
+unfoldable pub busAfter : Bus → ℕ → ℕ → ℕ → Bus
+busAfter h code b pair =
     ranged code
     ((0xE0, h) ∷
     (0xE4, afterInput h b) ∷  -- IB, IW
     (0xF0, h) ∷
-    (0xFA, lines pair true (h .iack)) ∷  -- F0-F7, R, W
-    (0xFC, lines pair true true) ∷  -- RA, WA
-    (0xFE, lines pair false false) ∷  -- OB, OW
-    (0xFF, lines pair (h .sync) (h .iack)) ∷  -- OS
+    (0xFA, busWith pair true (h .iack)) ∷  -- F0-F7, R, W
+    (0xFC, busWith pair true true) ∷  -- RA, WA
+    (0xFE, busWith pair false false) ∷  -- OB, OW
+    (0xFF, busWith pair (h .sync) (h .iack)) ∷  -- OS
     [])
     h
 

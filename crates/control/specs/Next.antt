@@ -1,10 +1,9 @@
 -- The next address: jumps, rows, LC + 1; RR; TSR. 01, "One attempt".
 use Prim.Native.Nat.{ℕ, _+_, _*_, _/_, _%_}
-use mathlib.Core.Bool.{Bool, true, false, not}
-use mathlib.Core.List.{List, [], _∷_}
+use mathlib.Core.Bool.{Bool, not}
+use mathlib.Core.List.{[], _∷_}
 use lib.Dec.{eqb}
-use Rattle.choose.specs.Ranged.{pick, ranged}
-use Rattle.alu.specs.Cycle.{bit}
+use Rattle.choose.specs.Ranged.{bit, pick, ranged}
 use Rattle.alu.specs.declared.Flags.{Flags}
 use Rattle.rows.specs.Scan.{lta, lra, ltsr}
 use Rattle.rows.specs.declared.Inputs.{Inputs}
@@ -22,8 +21,8 @@ conditionOf code f ics =
     (f .n)
 
 -- the odd code of two jumps if true, the even one if false
-unfoldable pub heldOf : ℕ → Flags → Bool → Bool
-heldOf code f ics = pick (eqb (code % 2) 1) (conditionOf code f ics) (not (conditionOf code f ics))
+unfoldable pub jumpTaken : ℕ → Flags → Bool → Bool
+jumpTaken code f ics = pick (eqb (code % 2) 1) (conditionOf code f ics) (not (conditionOf code f ics))
 
 -- "A conditional jump replaces LC7-0 and keeps the page of its own address"
 abbrev pub withinPage : ℕ → ℕ → Bool → Way
@@ -32,13 +31,13 @@ withinPage lc n jumps = pick jumps (Way.Jump (lc / 256 * 256 + n % 256)) Way.Onw
 -- JMP, RFS, the conditional jumps; all others go on
 unfoldable pub wayOf : ℕ → ℕ → ℕ → Flags → Bool → Way
 wayOf lc code n f ics =
-    ranged code ((0x08, Way.Jump n) ∷ (0x10, Way.Return) ∷ (0x20, withinPage lc n (heldOf code f ics)) ∷ []) Way.Onward
+    ranged code ((0x08, Way.Jump n) ∷ (0x10, Way.Return) ∷ (0x20, withinPage lc n (jumpTaken code f ics)) ∷ []) Way.Onward
 
 -- "the selected TR byte (TSR bit 2: 0 upper, 1 lower)"
 unfoldable pub trByteOf : ℕ → ℕ → ℕ
 trByteOf tr tsr = pick (eqb (tsr / 4 % 2) 1) (tr % 256) (tr / 256)
 
--- what the rows see: "LC, bit 17, the selected TR byte, TSR bits 1-0 and I0-I6 .., all as before the attempt"
+-- what the rows see: "LC, bit 17, the selected TR byte .., TSR bits 1-0 and I0-I6 .., all as before the attempt"
 unfoldable pub inputsOf : Core → Bool → Sample → Inputs
 inputsOf core rni sample =
     record {
@@ -71,5 +70,5 @@ rrOf a loads = pick loads (plusOne (a .lc)) (a .rr)
 unfoldable pub tsrOf : ℕ → ℕ → Outputs → ℕ
 tsrOf tsr code o = pick (eqb code 0x74) 0 (pick (ltsr o) (o .«new_tsr») tsr)
 
-unfoldable pub addressOf : Address → Way → ℕ → Bool → Outputs → Address
-addressOf a way code loads o = record { lc = nextOf a way o; rr = rrOf a loads; tsr = tsrOf (a .tsr) code o }
+unfoldable pub addressAfter : Address → Way → ℕ → Bool → Outputs → Address
+addressAfter a way code loads o = record { lc = nextOf a way o; rr = rrOf a loads; tsr = tsrOf (a .tsr) code o }

@@ -8,13 +8,12 @@ use state::Core;
 use state::Latches;
 use state::Sample;
 ghost use mathlib.Core.Path.{_≡_};
-ghost use Rattle.alu.specs.Cycle.{bit};
-ghost use Rattle.control.specs.Bus.{lines, afterInput, busOf, placed, requestOf};
-ghost use Rattle.control.specs.Latches.{used, withInterrupts, waiting, taken, inputLatchesOf, latchesOf};
-ghost use Rattle.control.specs.Next.{conditionOf, heldOf, withinPage, wayOf, trByteOf, inputsOf, plusOne, onwardOf, nextOf, rrOf, tsrOf, addressOf};
+ghost use Rattle.control.specs.Bus.{busWith, afterInput, busAfter, placed, requestOf};
+ghost use Rattle.control.specs.Latches.{used, withInterrupts, waiting, withLoaded, inputLatchesOf, latchesAfter};
+ghost use Rattle.control.specs.Next.{conditionOf, jumpTaken, withinPage, wayOf, trByteOf, inputsOf, plusOne, onwardOf, nextOf, rrOf, tsrOf, addressAfter};
 
-fn lines(m: u16, sync: bool, iack: bool) -> Bus
-    ensures { λ r. ⌜ r ≡ lines m sync iack ⌝ }
+fn bus_with(m: u16, sync: bool, iack: bool) -> Bus
+    ensures { λ r. ⌜ r ≡ busWith m sync iack ⌝ }
 {
     Bus { m, sync, iack }
 }
@@ -26,20 +25,20 @@ fn after_input(held: Bus, b: u8) -> Bus
     if b / 4 % 2 == 1 {
         return held;
     }
-    lines(held.m, false, false)
+    bus_with(held.m, false, false)
 }
 
 pub fn bus_after(held: Bus, code: u8, b: u8, pair: u16) -> Bus
-    ensures { λ r. ⌜ r ≡ busOf held code b pair ⌝ }
+    ensures { λ r. ⌜ r ≡ busAfter held code b pair ⌝ }
 {
     match code {
         0x00..=0xDF => held,
         0xE0..=0xE3 => after_input(held, b),
         0xE4..=0xEF => held,
-        0xF0..=0xF9 => lines(pair, true, held.iack),
-        0xFA..=0xFB => lines(pair, true, true),
-        0xFC..=0xFD => lines(pair, false, false),
-        0xFE => lines(pair, held.sync, held.iack),
+        0xF0..=0xF9 => bus_with(pair, true, held.iack),
+        0xFA..=0xFB => bus_with(pair, true, true),
+        0xFC..=0xFD => bus_with(pair, false, false),
+        0xFE => bus_with(pair, held.sync, held.iack),
         _ => held,
     }
 }
@@ -94,9 +93,9 @@ fn with_interrupts(l: Latches, interrupts: u8) -> Latches
     }
 }
 
-// What IW takes besides the registers: TR from the lines, ICS from the sample, and G.
-fn taken(l: Latches, g: u8, tr: u16, ics: bool) -> Latches
-    ensures { λ r. ⌜ r ≡ taken l g tr ics ⌝ }
+// With another G, TR and ICS, which LGL, LTR and IW load.
+fn with_loaded(l: Latches, g: u8, tr: u16, ics: bool) -> Latches
+    ensures { λ r. ⌜ r ≡ withLoaded l g tr ics ⌝ }
 {
     Latches {
         g,
@@ -113,9 +112,9 @@ fn input_latches(l: Latches, b: u8, dal: u16, ics: bool) -> Latches
 {
     match b % 4 {
         0 => used(l),
-        1 => taken(l, (dal / 16 % 8) as u8, dal, ics),
-        2 => taken(l, (dal / 64 % 8) as u8, dal, ics),
-        _ => taken(l, l.g, dal, ics),
+        1 => with_loaded(l, (dal / 16 % 8) as u8, dal, ics),
+        2 => with_loaded(l, (dal / 64 % 8) as u8, dal, ics),
+        _ => with_loaded(l, l.g, dal, ics),
     }
 }
 
@@ -134,19 +133,19 @@ fn waiting(l: Latches, modification: u16) -> Latches
 }
 
 pub fn latches_after(l: Latches, code: u8, b: u8, ra: u8, pair: u16, sample: Sample) -> Latches
-    ensures { λ r. ⌜ r ≡ latchesOf l code b ra pair sample ⌝ }
+    ensures { λ r. ⌜ r ≡ latchesAfter l code b ra pair sample ⌝ }
 {
     match code {
         0x00..=0x6F => used(l),
         0x70 => with_interrupts(l, l.interrupts & (7 - b % 8)),
         0x71 => with_interrupts(l, l.interrupts | b % 8),
         0x72..=0x74 => used(l),
-        0x75 => taken(l, ra % 8, l.tr, l.ics),
+        0x75 => with_loaded(l, ra % 8, l.tr, l.ics),
         0x76..=0xE1 => used(l),
         0xE2..=0xE3 => input_latches(l, b, sample.dal, sample.ics),
         0xE4..=0xEB => used(l),
         0xEC..=0xED => waiting(l, pair),
-        0xEE..=0xEF => taken(l, l.g, pair, l.ics),
+        0xEE..=0xEF => with_loaded(l, l.g, pair, l.ics),
         _ => used(l),
     }
 }
@@ -174,8 +173,8 @@ fn condition(code: u8, f: Flags, ics: bool) -> bool
 }
 
 // Odd codes jump where the condition is true, even ones where it is false.
-fn held(code: u8, f: Flags, ics: bool) -> bool
-    ensures { λ r. ⌜ r ≡ heldOf code f ics ⌝ }
+fn jump_taken(code: u8, f: Flags, ics: bool) -> bool
+    ensures { λ r. ⌜ r ≡ jumpTaken code f ics ⌝ }
 {
     let t = condition(code, f, ics);
     if code % 2 == 1 {
@@ -199,18 +198,9 @@ pub fn way_of(lc: u16, code: u8, n: u16, f: Flags, ics: bool) -> Way
     match code {
         0x00..=0x07 => Way::Jump(n),
         0x08..=0x0F => Way::Return,
-        0x10..=0x1F => within_page(lc, n, held(code, f, ics)),
+        0x10..=0x1F => within_page(lc, n, jump_taken(code, f, ics)),
         _ => Way::Onward,
     }
-}
-
-fn digit(b: bool) -> u8
-    ensures { λ r. ⌜ r ≡ bit b ⌝ }
-{
-    if b {
-        return 1;
-    }
-    0
 }
 
 // The byte of TR that the rows see.
@@ -228,11 +218,10 @@ pub fn inputs(core: Core, rni: bool, sample: Sample) -> Inputs
 {
     let a = core.address;
     let l = core.latches;
-    let bit17 = digit(rni);
     let tr = tr_byte(l.tr, a.tsr);
     Inputs {
         lc: a.lc,
-        rni: bit17,
+        rni: rni as u8,
         tr,
         tsr: a.tsr % 4,
         interrupts: sample.interrupts % 16 + l.interrupts % 8 * 16,
@@ -291,7 +280,7 @@ fn tsr_after(tsr: u8, code: u8, o: Outputs) -> u8
 }
 
 pub fn address_after(a: Address, way: Way, code: u8, loads: bool, o: Outputs) -> Address
-    ensures { λ r. ⌜ r ≡ addressOf a way code loads o ⌝ }
+    ensures { λ r. ⌜ r ≡ addressAfter a way code loads o ⌝ }
 {
     let lc = next(a, way, o);
     let rr = rr_after(a, loads);

@@ -2,7 +2,8 @@
 use Prim.Native.Nat.{ℕ, _/_, _%_}
 use mathlib.Core.Bool.{Bool, true, false, not}
 use mathlib.Core.List.{List}
-use Rattle.alu.specs.Cycle.{choice, cycleOf, highFirstOf}
+use Rattle.choose.specs.Ranged.{pick}
+use Rattle.alu.specs.Cycle.{cycleOf, highFirstOf}
 use Rattle.alu.specs.Marks.{afterByteOf, afterWordOf}
 use Rattle.alu.specs.declared.Cycle.{Cycle}
 use Rattle.alu.specs.declared.Flags.{Flags}
@@ -16,7 +17,7 @@ use Rattle.cycles.specs.declared.Names.{Names}
 unfoldable pub operandOf : Operand → ℕ → ℕ → Bool → ℕ
 operandOf A ra rb high = ra
 operandOf B ra rb high = rb
-operandOf (Number n) ra rb high = choice high (n / 256) (n % 256)
+operandOf (Number n) ra rb high = pick high (n / 256) (n % 256)
 
 -- what a cycle leaves: the file, and what it gave
 pub record Stepped : Type 0 where
@@ -26,17 +27,13 @@ pub record Stepped : Type 0 where
 abbrev pub stepped : List ℕ → Cycle → Stepped
 stepped xs y = record { file = xs; cycle = y }
 
-abbrev pub either : Bool → List ℕ → List ℕ → List ℕ
-either true xs ys = xs
-either false xs ys = ys
-
 -- one cycle on the registers that the designators name; "Compare and test write no register"
 unfoldable pub stepOf : List ℕ → ℕ → Flags → Plan → Names → Bool → Bool → Stepped
 stepOf xs g f plan at carry high =
     let ra = registerOf xs g (at .a) in
     let rb = registerOf xs g (at .b) in
     let y = cycleOf (plan .kind) (operandOf (plan .p) ra rb high) (operandOf (plan .q) ra rb high) carry f in
-    stepped (either (plan .stores) (writtenOf xs g (at .a) (y .result)) xs) y
+    stepped (pick (plan .stores) (writtenOf xs g (at .a) (y .result)) xs) y
 
 -- what an instruction leaves in the file and the flags
 pub record Made : Type 0 where
@@ -52,17 +49,13 @@ oneCycleOf xs g f plan at odd =
     made (y .file) (afterByteOf f (y .cycle) odd)
 
 -- two cycles, the second on what the first left, with "C8 as its carry"
-abbrev pub joinedOf : List ℕ → ℕ → Flags → Plan → Names → Names → Bool → Bool → Made
-joinedOf xs g f plan one other high odd =
+abbrev pub oneThenOther : List ℕ → ℕ → Flags → Plan → Names → Names → Bool → Bool → Made
+oneThenOther xs g f plan one other high odd =
     let first = stepOf xs g f plan one (plan .carry) high in
     let second = stepOf (first .file) g f plan other (first .cycle .c8) (not high) in
     made (second .file) (afterWordOf f (first .cycle) (second .cycle) odd)
 
-abbrev pub chosen : Bool → Made → Made → Made
-chosen true k l = k
-chosen false k l = l
-
 -- "A word operation is the low byte, then the high byte ..  Right shifts go high byte first"
 unfoldable pub twoCyclesOf : List ℕ → ℕ → Flags → Plan → Names → Names → Bool → Made
 twoCyclesOf xs g f plan low high odd =
-    chosen (highFirstOf (plan .kind)) (joinedOf xs g f plan high low true odd) (joinedOf xs g f plan low high false odd)
+    pick (highFirstOf (plan .kind)) (oneThenOther xs g f plan high low true odd) (oneThenOther xs g f plan low high false odd)

@@ -27,7 +27,7 @@ pub struct Names {
     pub b: u8,
 }
 
-fn taken(o: Operand, ra: u8, rb: u8, high: bool) -> u8
+fn operand_of(o: Operand, ra: u8, rb: u8, high: bool) -> u8
     ensures { λ r. ⌜ r ≡ operandOf o ra rb high ⌝ }
 {
     match o {
@@ -57,8 +57,8 @@ fn step(
     let rb = state::register(file, g, at.b);
     let first = plan.p;
     let second = plan.q;
-    let p = taken(first, ra, rb, high);
-    let q = taken(second, ra, rb, high);
+    let p = operand_of(first, ra, rb, high);
+    let q = operand_of(second, ra, rb, high);
     let kind = plan.kind;
     let y = alu::byte_cycle(kind, p, q, carry, f);
     if plan.stores {

@@ -9,16 +9,18 @@ use borrow.Author.Tests.{leb-true, ltb-true, eqb-true, le-leb, eq-eqb}
 use lib.Dec.{eqb, leb, ltb}
 use lib.ListN.{length, take, drop, length-take, length-drop, take-append-drop, drop-of-length-le}
 use lib.Seq.{drop-drop}
-use Rattle.numbers.specs.Numbers.{AllBytes}
+use Rattle.choose.proofs.Choice.{pick-all}
+use Rattle.choose.proofs.Tests.{three}
+use Rattle.choose.proofs.Table.{all-at}
+use Rattle.numbers.specs.Numbers.{wordAt, Bytes}
+use Rattle.choose.specs.Below.{allBelow}
 use Rattle.numbers.proofs.Laws.{take-bytes, drop-bytes}
 use Rattle.rows.specs.Section.{rowsOf}
 use Rattle.rows.specs.Range.{rowsInRange}
 use Rattle.state_bytes.specs.Range.{stateInRange}
-use Rattle.state_bytes.proofs.Laws.{three}
-use Rattle.deck.specs.Sections.{countAt, afterOf, layoutOf, wholeOf, partOf, pickPart, sectionOf, wordsPart, rowsPart, statePart, samplesPart}
-use Rattle.deck.specs.Elements.{wordAt, linesAt, interruptsAt}
-use Rattle.deck.specs.Ranges.{every, wordsInRange, rowsPartInRange, samplesInRange, placesEnough, unless, refusalOf, Accepted}
-use Rattle.deck.proofs.Every.{every-at}
+use Rattle.deck.specs.Sections.{countAt, sectionEnd, layoutOf, wholeOf, sectionOf, wordsPart, rowsPart, statePart, samplesPart}
+use Rattle.deck.specs.Elements.{linesAt, interruptsAt}
+use Rattle.deck.specs.Ranges.{wordsInRange, rowsPartInRange, samplesInRange, placesEnough, unless, deckRefusalOf, Accepted}
 
 -- what is tested of a whole deck
 pub tested : (s : List ℕ) → wholeOf s ≡ true → (length s ≤ 65536) × (countAt s (layoutOf s .state) ≡ 1) × (layoutOf s .end ≡ length s)
@@ -28,19 +30,19 @@ tested s h =
     (leb-true _ _ (p .0), eqb-true _ _ (p .1), eqb-true _ _ (p .2))
 
 -- a section ends after its count
-pub after-ge : (s : List ℕ) (a size : ℕ) → a + 2 ≤ afterOf s a size
-unfolding afterOf
-after-ge s a size = omega arith
+pub section-end-ge : (s : List ℕ) (a size : ℕ) → a + 2 ≤ sectionEnd s a size
+unfolding sectionEnd
+section-end-ge s a size = omega arith
 
 -- each section of a whole deck ends within it
 pub fits : (s : List ℕ) → wholeOf s ≡ true
-    → (afterOf s 0 4 ≤ length s) × (afterOf s (layoutOf s .rows) 16 ≤ length s) × (afterOf s (layoutOf s .state) 41 ≤ length s) × (afterOf s (layoutOf s .samples) 4 ≤ length s)
+    → (sectionEnd s 0 4 ≤ length s) × (sectionEnd s (layoutOf s .rows) 16 ≤ length s) × (sectionEnd s (layoutOf s .state) 41 ≤ length s) × (sectionEnd s (layoutOf s .samples) 4 ≤ length s)
 unfolding layoutOf
 fits s h =
     let end = tested s h .2 in
-    let state = after-ge s (layoutOf s .rows) 16 in
-    let samples = after-ge s (layoutOf s .state) 41 in
-    let past = after-ge s (layoutOf s .samples) 4 in
+    let state = section-end-ge s (layoutOf s .rows) 16 in
+    let samples = section-end-ge s (layoutOf s .state) 41 in
+    let past = section-end-ge s (layoutOf s .samples) 4 in
     omega arith
 
 -- elements of at most 41 bytes, as many as a count can say
@@ -49,16 +51,13 @@ product-le size count a b = mul-le-mul a b
 
 -- ---- the parts of a whole deck
 -- a section has as many elements as its count says
-pub part-length : (s : List ℕ) (a size : ℕ) → wholeOf s ≡ true → afterOf s a size ≤ length s → length (sectionOf s a size) ≡ size * countAt s a
-unfolding sectionOf afterOf
+pub part-length : (s : List ℕ) (a size : ℕ) → wholeOf s ≡ true → sectionEnd s a size ≤ length s → length (sectionOf s a size) ≡ size * countAt s a
+unfolding sectionOf sectionEnd
 part-length s a size h l = rw h (simp (length-take, length-drop) (omega arith))
 
-pub state-length : (s : List ℕ) → wholeOf s ≡ true → length (statePart s) ≡ 41
-state-length s h = part-length s (layoutOf s .state) 41 h (fits s h .2) ∙ rw (tested s h .1)
-
 -- from byte a on a deck has a count, a section and what comes after it
-cut : (s : List ℕ) (a size : ℕ) → wholeOf s ≡ true → drop a s ≡ take 2 (drop a s) ++ (sectionOf s a size ++ drop (afterOf s a size) s)
-unfolding sectionOf afterOf
+cut : (s : List ℕ) (a size : ℕ) → wholeOf s ≡ true → drop a s ≡ take 2 (drop a s) ++ (sectionOf s a size ++ drop (sectionEnd s a size) s)
+unfolding sectionOf sectionEnd
 cut s a size h =
     let n = size * countAt s a in
     sym (rw (h, ← drop-drop n (a + 2) s, take-append-drop n (drop (a + 2) s), ← drop-drop 2 a s) (take-append-drop 2 (drop a s)))
@@ -76,13 +75,10 @@ whole-deck s h =
     ∙ ap (λ (r : List ℕ). take 2 (drop (l .rows) s) ++ (rowsPart s ++ r)) (cut s (l .state) 41 h
     ∙ ap (λ (r : List ℕ). take 2 (drop (l .state) s) ++ (statePart s ++ r)) (cut s (l .samples) 4 h ∙ past)))
 
-pub section-bytes : (s : List ℕ) (a size : ℕ) → AllBytes s → AllBytes (sectionOf s a size)
+pub section-bytes : (s : List ℕ) (a size : ℕ) → Bytes s → Bytes (sectionOf s a size)
 unfolding sectionOf
-section-bytes s a size b = go (wholeOf s)
-  where
-    go : (t : Bool) → AllBytes (pickPart t (partOf s a size))
-    go true = take-bytes (size * countAt s a) (drop (a + 2) s) (drop-bytes (a + 2) s b)
-    go false = λ i. omega arith
+section-bytes s a size b =
+    pick-all Bytes (wholeOf s) _ [] (take-bytes (size * countAt s a) (drop (a + 2) s) (drop-bytes (a + 2) s b)) tt
 
 -- ---- what is not refused
 -- a test that does not refuse
@@ -90,8 +86,8 @@ passed : (t : Bool) (number rest : ℕ) → 0 < number → unless t number rest 
 passed true number rest l h = (refl, h)
 passed false number rest l h = absurd (omega arith)
 
-pub accepted : (s : List ℕ) (requests buffer : ℕ) → refusalOf s requests buffer ≡ 0 → Accepted s requests buffer
-unfolding refusalOf
+pub accepted : (s : List ℕ) (requests buffer : ℕ) → deckRefusalOf s requests buffer ≡ 0 → Accepted s requests buffer
+unfolding deckRefusalOf
 accepted s requests buffer h =
     let nine = passed (wholeOf s && eqb buffer 41) 9 _ (omega arith) h in
     let one = passed (stateInRange (statePart s)) 1 _ (omega arith) (nine .1) in
@@ -110,24 +106,42 @@ accepted s requests buffer h =
       places = leb-true _ _ (enough .1);
     }
 
-pub not-refused : (s : List ℕ) (requests buffer : ℕ) → Accepted s requests buffer → refusalOf s requests buffer ≡ 0
-unfolding refusalOf
+pub not-refused : (s : List ℕ) (requests buffer : ℕ) → Accepted s requests buffer → deckRefusalOf s requests buffer ≡ 0
+unfolding deckRefusalOf
 not-refused s requests buffer a =
     rw (a .whole, eq-eqb buffer 41 (a .buffer-length), a .state, a .words, a .rows, a .samples, le-leb _ _ (a .places))
+
+not-one : (t : Bool) (n rest : ℕ) → (n ≡ 1 → ⊥) → (rest ≡ 1 → ⊥) → unless t n rest ≡ 1 → ⊥
+not-one true n rest a b e = b e
+not-one false n rest a b e = a e
+
+-- a state in range is not refused with 1, whatever stands beside it
+pub state-accepted : (s : List ℕ) (requests buffer : ℕ) → stateInRange (statePart s) ≡ true → deckRefusalOf s requests buffer ≡ 1 → ⊥
+unfolding deckRefusalOf
+state-accepted s requests buffer h =
+    rw h
+    (not-one (wholeOf s && eqb buffer 41) 9 _ (λ e. omega arith)
+    (not-one (wordsInRange (wordsPart s)) 2 _ (λ e. omega arith)
+    (not-one (rowsPartInRange (rowsPart s)) 3 _ (λ e. omega arith)
+    (not-one (samplesInRange (samplesPart s) && placesEnough (samplesPart s) requests) 4 0 (λ e. omega arith) (λ e. omega arith)))))
 
 -- ---- what sections in range hold
 pub word-below : (s : List ℕ) → wordsInRange s ≡ true → (i : ℕ) → i < length s / 4 → wordAt s i < 4194304
 unfolding wordsInRange
 word-below s h i l =
-    let p = and-eq-true-iff (leb (length s / 4) 2048) (every (λ j. ltb (wordAt s j) 4194304) (length s / 4)) .0 h in
-    ltb-true _ _ (every-at (λ j. ltb (wordAt s j) 4194304) (length s / 4) i (p .1) l)
+    let p = and-eq-true-iff (leb (length s / 4) 2048) (allBelow (length s / 4) (λ j. ltb (wordAt s j) 4194304)) .0 h in
+    ltb-true _ _ (all-at (λ j. ltb (wordAt s j) 4194304) (length s / 4) i (p .1) l)
+
+pub samples-few : (s : List ℕ) → samplesInRange s ≡ true → length s / 4 ≤ 65535
+unfolding samplesInRange
+samples-few s h = leb-true _ _ (and-eq-true-iff (leb (length s / 4) 65535) _ .0 h .0)
 
 pub sample-in-range : (s : List ℕ) → samplesInRange s ≡ true → (i : ℕ) → i < length s / 4 → (linesAt s i ≤ 31) × (interruptsAt s i ≤ 15)
 unfolding samplesInRange
 sample-in-range s h i l =
     let test : ℕ → Bool = λ j. leb (linesAt s j) 31 && leb (interruptsAt s j) 15 in
-    let p = and-eq-true-iff (leb (length s / 4) 65535) (every test (length s / 4)) .0 h in
-    let q = and-eq-true-iff (leb (linesAt s i) 31) (leb (interruptsAt s i) 15) .0 (every-at test (length s / 4) i (p .1) l) in
+    let p = and-eq-true-iff (leb (length s / 4) 65535) (allBelow (length s / 4) test) .0 h in
+    let q = and-eq-true-iff (leb (linesAt s i) 31) (leb (interruptsAt s i) 15) .0 (all-at test (length s / 4) i (p .1) l) in
     (leb-true _ _ (q .0), leb-true _ _ (q .1))
 
 -- the rows that `rows::load` makes a table of

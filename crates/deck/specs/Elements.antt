@@ -1,13 +1,9 @@
--- What a words section and a samples section hold; what is missing reads as 0.
+-- What a samples section holds; what is missing reads as 0.
 use mathlib.Core.List.{List}
 use Prim.Native.Nat.{ℕ, _+_, _*_, _/_, _%_}
 use lib.Dec.{eqb}
-use Rattle.numbers.specs.Numbers.{byteAt, pairAt, quadAt}
+use Rattle.numbers.specs.Numbers.{byteAt, pairAt}
 use Rattle.state.specs.declared.Sample.{Sample}
-
--- "Words: 4 bytes each": word i
-abbrev pub wordAt : List ℕ → ℕ → ℕ
-wordAt s i = quadAt s (i * 4)
 
 -- "Samples: data, lines (bit 0 REPLY, 1 BUSY, 2 COMPUTE, 3 RESET, 4 ICS), I0-I3 in bits 0-3": two bytes of sample i
 abbrev pub linesAt : List ℕ → ℕ → ℕ

@@ -1,29 +1,26 @@
 -- "Numbers on the refusal slip", those before the first attempt: 9, then 1, 2, 3, 4.
 use mathlib.Core.Path.{_≡_}
-use mathlib.Core.Bool.{Bool, true, false, _&&_}
+use mathlib.Core.Bool.{Bool, true, _&&_}
 use mathlib.Core.List.{List}
-use Prim.Native.Nat.{ℕ, zero, suc, _+_, _*_, _/_, _≤_}
+use Prim.Native.Nat.{ℕ, _+_, _*_, _/_, _≤_}
 use lib.Dec.{eqb, leb, ltb}
 use lib.ListN.{length}
-use Rattle.numbers.specs.Numbers.{byteAt}
+use Rattle.choose.specs.Ranged.{pick}
+use Rattle.numbers.specs.Numbers.{byteAt, wordAt}
+use Rattle.choose.specs.Below.{allBelow}
 use Rattle.rows.specs.Section.{rowsOf}
 use Rattle.rows.specs.Range.{rowsInRange}
 use Rattle.state_bytes.specs.Range.{stateInRange}
 use Rattle.deck.specs.Sections.{wholeOf, wordsPart, rowsPart, statePart, samplesPart}
-use Rattle.deck.specs.Elements.{wordAt, linesAt, interruptsAt}
-
--- the test holds of each number below n
-unfoldable pub every : (ℕ → Bool) → ℕ → Bool
-every test zero = true
-every test (suc n) = every test n && test n
+use Rattle.deck.specs.Elements.{linesAt, interruptsAt}
 
 -- of each whole element of four bytes, the last two have these limits
 unfoldable pub everyQuad : List ℕ → ℕ → ℕ → Bool
-everyQuad s third fourth = every (λ i. leb (byteAt s (i * 4 + 2)) third && leb (byteAt s (i * 4 + 3)) fourth) (length s / 4)
+everyQuad s third fourth = allBelow (length s / 4) (λ i. leb (byteAt s (i * 4 + 2)) third && leb (byteAt s (i * 4 + 3)) fourth)
 
 -- 2: "over 2,048 words, or a word of 2^22 or more"
 unfoldable pub wordsInRange : List ℕ → Bool
-wordsInRange s = leb (length s / 4) 2048 && every (λ i. ltb (wordAt s i) 4194304) (length s / 4)
+wordsInRange s = leb (length s / 4) 2048 && allBelow (length s / 4) (λ i. ltb (wordAt s i) 4194304)
 
 -- 3: "over 128 rows, or a row out of range"
 unfoldable pub rowsPartInRange : List ℕ → Bool
@@ -31,19 +28,18 @@ rowsPartInRange s = leb (length s / 16) 128 && rowsInRange (rowsOf s (length s /
 
 -- 4: "over 65,535 samples, a sample out of range"
 unfoldable pub samplesInRange : List ℕ → Bool
-samplesInRange s = leb (length s / 4) 65535 && every (λ i. leb (linesAt s i) 31 && leb (interruptsAt s i) 15) (length s / 4)
+samplesInRange s = leb (length s / 4) 65535 && allBelow (length s / 4) (λ i. leb (linesAt s i) 31 && leb (interruptsAt s i) 15)
 
 -- 4: "or the request buffer shorter than the samples"; a place of the buffer is four bytes
 abbrev pub placesEnough : List ℕ → ℕ → Bool
 placesEnough s requests = leb (length s / 4) (requests / 4)
 
 abbrev pub unless : Bool → ℕ → ℕ → ℕ
-unless true number rest = rest
-unless false number rest = number
+unless t number rest = pick t rest number
 
 -- "Order: 9, then 1, 2, 3, 4"; 9 also for "the host's state buffer not 41 bytes"
-unfoldable pub refusalOf : List ℕ → ℕ → ℕ → ℕ
-refusalOf s requests buffer =
+unfoldable pub deckRefusalOf : List ℕ → ℕ → ℕ → ℕ
+deckRefusalOf s requests buffer =
     unless (wholeOf s && eqb buffer 41) 9
     (unless (stateInRange (statePart s)) 1
     (unless (wordsInRange (wordsPart s)) 2

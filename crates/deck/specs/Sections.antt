@@ -1,9 +1,10 @@
 -- The sections of a deck: "A deck holds the first four in this order, each after its count (two bytes, low first ..)."
-use mathlib.Core.Bool.{Bool, true, false, _&&_}
+use mathlib.Core.Bool.{Bool, _&&_}
 use mathlib.Core.List.{List, []}
 use Prim.Native.Nat.{ℕ, _+_, _*_}
 use lib.Dec.{eqb, leb}
 use lib.ListN.{length, take, drop}
+use Rattle.choose.specs.Ranged.{pick}
 use Rattle.numbers.specs.Numbers.{pairAt}
 use Rattle.deck.specs.declared.Layout.{Layout}
 
@@ -12,16 +13,16 @@ abbrev pub countAt : List ℕ → ℕ → ℕ
 countAt s a = pairAt s a
 
 -- where that section ends, with elements of `size` bytes
-unfoldable pub afterOf : List ℕ → ℕ → ℕ → ℕ
-afterOf s a size = a + 2 + size * countAt s a
+unfoldable pub sectionEnd : List ℕ → ℕ → ℕ → ℕ
+sectionEnd s a size = a + 2 + size * countAt s a
 
 -- "in this order": words of 4 bytes, which start the deck, rows of 16, the state of 41, samples of 4
 unfoldable pub layoutOf : List ℕ → Layout
 layoutOf s =
-    let rows = afterOf s 0 4 in
-    let state = afterOf s rows 16 in
-    let samples = afterOf s state 41 in
-    record { rows = rows; state = state; samples = samples; end = afterOf s samples 4 }
+    let rows = sectionEnd s 0 4 in
+    let state = sectionEnd s rows 16 in
+    let samples = sectionEnd s state 41 in
+    record { rows = rows; state = state; samples = samples; end = sectionEnd s samples 4 }
 
 -- 9 is given for a "deck over 65,536 bytes, state count not 1, length other than its counts say". A count that lies past the end
 -- reads as 0, and the end that it gives lies past the end too.
@@ -32,13 +33,9 @@ wholeOf s = leb (length s) 65536 && eqb (countAt s (layoutOf s .state)) 1 && eqb
 abbrev pub partOf : List ℕ → ℕ → ℕ → List ℕ
 partOf s a size = take (size * countAt s a) (drop (a + 2) s)
 
-abbrev pub pickPart : Bool → List ℕ → List ℕ
-pickPart true s = s
-pickPart false s = []
-
 -- a deck that is refused with 9 has no sections
 unfoldable pub sectionOf : List ℕ → ℕ → ℕ → List ℕ
-sectionOf s a size = pickPart (wholeOf s) (partOf s a size)
+sectionOf s a size = pick (wholeOf s) (partOf s a size) []
 
 abbrev pub wordsPart : List ℕ → List ℕ
 wordsPart s = sectionOf s 0 4

@@ -4,9 +4,9 @@ ghost use mathlib.Core.Path.{_≡_};
 ghost use mathlib.Core.Bool.{true};
 ghost use Prim.Native.Nat.{_+_, _≤_};
 ghost use lib.ListN.{length};
-ghost use Rattle.deck.specs.Sections.{afterOf, layoutOf, wholeOf, sectionOf, wordsPart, rowsPart, statePart, samplesPart};
+ghost use Rattle.deck.specs.Sections.{sectionEnd, layoutOf, wholeOf, sectionOf, wordsPart, rowsPart, statePart, samplesPart};
 ghost use Rattle.deck.specs.Elements.{sampleAt};
-ghost use Rattle.deck.specs.Ranges.{everyQuad, wordsInRange, rowsPartInRange, samplesInRange, refusalOf};
+ghost use Rattle.deck.specs.Ranges.{everyQuad, wordsInRange, rowsPartInRange, samplesInRange, deckRefusalOf};
 
 // Where the sections after the words start, each at its count, and where the last one ends.
 pub struct Layout {
@@ -17,9 +17,9 @@ pub struct Layout {
 }
 
 // Where the section that starts at byte a ends, which has elements of size bytes: the next one starts there.
-fn after(deck: &[u8], a: usize, size: usize) -> usize
+fn section_end(deck: &[u8], a: usize, size: usize) -> usize
     requires { ⌜ (a ≤ 16777216) × (size ≤ 41) ⌝ }
-    ensures { λ r. ⌜ (r ≡ afterOf (now (deck .entry)) a size) × (r ≤ a + 2686937) ⌝ }
+    ensures { λ r. ⌜ (r ≡ sectionEnd (now (deck .entry)) a size) × (r ≤ a + 2686937) ⌝ }
 {
     let count = numbers::pair_at(deck, a) as usize;
     a + 2 + size * count
@@ -29,10 +29,10 @@ fn after(deck: &[u8], a: usize, size: usize) -> usize
 pub fn sections(deck: &[u8]) -> Layout
     ensures { λ r. ⌜ r ≡ layoutOf (now (deck .entry)) ⌝ }
 {
-    let rows = after(deck, 0, 4);
-    let state = after(deck, rows, 16);
-    let samples = after(deck, state, 41);
-    let end = after(deck, samples, 4);
+    let rows = section_end(deck, 0, 4);
+    let state = section_end(deck, rows, 16);
+    let samples = section_end(deck, state, 41);
+    let end = section_end(deck, samples, 4);
     Layout {
         rows: rows,
         state: state,
@@ -52,7 +52,7 @@ pub fn whole(deck: &[u8]) -> bool
 
 // The section that starts at byte a, without its count; the empty part of a deck that is not whole.
 fn section(deck: &[u8], a: usize, size: usize) -> &[u8]
-    requires { ⌜ (wholeOf (now deck) ≡ true → afterOf (now deck) a size ≤ length (now deck)) ⌝ }
+    requires { ⌜ (wholeOf (now deck) ≡ true → sectionEnd (now deck) a size ≤ length (now deck)) ⌝ }
     ensures { λ r. ⌜ now r ≡ sectionOf (now (deck .entry)) a size ⌝ }
 {
     if whole(deck) {
@@ -169,7 +169,7 @@ pub fn rows_in_range(part: &[u8]) -> bool
 
 // The refusal before the first attempt, or 0; the lengths are those of the host's two buffers, in bytes.
 pub fn refusal(deck: &[u8], requests_len: usize, state_len: usize) -> u8
-    ensures { λ r. ⌜ r ≡ refusalOf (now (deck .entry)) «requests_len» «state_len» ⌝ }
+    ensures { λ r. ⌜ r ≡ deckRefusalOf (now (deck .entry)) «requests_len» «state_len» ⌝ }
 {
     if !(whole(deck) & (state_len == 41)) {
         return 9;

@@ -1,33 +1,23 @@
 -- Laws of the host's entry: what an accepted deck gives the run, and what comes back.
 -- Assumes nothing.
 use Prim.Native.Nat.{ℕ, _*_, _/_, _≤_}
-use mathlib.Core.Path.{_≡_, refl, ap, _∙_, sym}
-use mathlib.Core.Bool.{Bool, true, false, _&&_}
+use mathlib.Core.Path.{_≡_}
 use mathlib.Core.List.{List}
 use native.Mathlib.Omega.{arith}
-use lib.Dec.{leb}
 use lib.ListN.{length, take}
-use borrow.Author.Tests.{eq-eqb, ne-eqb, leb-true}
-use Rattle.deck.specs.Sections.{layoutOf, countAt, wordsPart, rowsPart, statePart, samplesPart}
-use Rattle.deck.specs.Ranges.{samplesInRange, refusalOf}
-use Rattle.deck.proofs.Laws.{accepted, fits, part-length, rows-in-range}
+use borrow.Author.Tests.{eq-eqb, ne-eqb}
+use Rattle.deck.specs.Sections.{layoutOf, wordsPart, rowsPart, statePart, samplesPart}
+use Rattle.deck.specs.Ranges.{deckRefusalOf}
+use Rattle.deck.proofs.Laws.{accepted, fits, part-length, rows-in-range, samples-few}
 use Rattle.rows.specs.Section.{rowsOf, tableOf}
 use Rattle.rows.specs.declared.Row.{Row}
 use Rattle.rows.proofs.Laws.{table-rows}
 use Rattle.state.specs.declared.Core.{Core}
-use Rattle.state_bytes.specs.Bytes.{fileOf, coreOf, storedOf, Loaded}
+use Rattle.state_bytes.specs.Bytes.{storedOf, Loaded}
 use Rattle.engine.specs.Run.{World, world, runFrom, samplesFrom}
 use Rattle.engine.specs.Host.{hosted, reported, deckRun, hostOf}
 
-first-of : (a b : Bool) → a && b ≡ true → a ≡ true
-first-of true b e = refl
-first-of false b e = e
-
-samples-few : (s : List ℕ) → samplesInRange s ≡ true → length s / 4 ≤ 65535
-unfolding samplesInRange
-samples-few s e = leb-true (length s / 4) 65535 (first-of _ _ e)
-
-module _ (deck : List ℕ) (requests buffer : ℕ) (h : refusalOf deck requests buffer ≡ 0) where
+module _ (deck : List ℕ) (requests buffer : ℕ) (h : deckRefusalOf deck requests buffer ≡ 0) where
   -- a place for each sample
   pub places : (length (samplesPart deck) / 4 ≤ 65535) × (length (samplesPart deck) / 4 * 4 ≤ requests)
   places =
@@ -42,17 +32,17 @@ module _ (deck : List ℕ) (requests buffer : ℕ) (h : refusalOf deck requests 
       table-rows (rowsPart deck) (length (rowsPart deck) / 16) (rows-in-range (rowsPart deck) (a .rows) .0) (omega arith)
 
 module _ (deck requests state : List ℕ) where
-  pub refuses : (refusalOf deck (length requests) (length state) ≡ 0 → ⊥) → hosted (reported (refusalOf deck (length requests) (length state)) 0 0) requests state ≡ hostOf deck requests state
+  pub refuses : (deckRefusalOf deck (length requests) (length state) ≡ 0 → ⊥) → hosted (reported (deckRefusalOf deck (length requests) (length state)) 0 0) requests state ≡ hostOf deck requests state
   unfolding hostOf
   refuses h = rw (ne-eqb _ 0 h)
 
-  pub answers : refusalOf deck (length requests) (length state) ≡ 0 → (w : World) → w ≡ deckRun deck requests
+  pub answers : deckRefusalOf deck (length requests) (length state) ≡ 0 → (w : World) → w ≡ deckRun deck requests
       → hosted (reported (w .answer) (w .attempts) (w .microcycles)) (w .buffer) (storedOf (w .file) (w .core) state) ≡ hostOf deck requests state
   unfolding hostOf
   answers h w e = rw (eq-eqb _ 0 h, e)
 
   -- the run over the parts that were handed back is the deck's run
-  pub same-run : refusalOf deck (length requests) (length state) ≡ 0 → (words samples part xs : List ℕ) (table : List Row) (k : Core)
+  pub same-run : deckRefusalOf deck (length requests) (length state) ≡ 0 → (words samples part xs : List ℕ) (table : List Row) (k : Core)
       → words ≡ wordsPart deck → samples ≡ samplesPart deck → part ≡ rowsPart deck → table ≡ tableOf part → Loaded (statePart deck) k xs
       → runFrom words (take (length part / 16) table) (samplesFrom samples 0 (length samples / 4)) (world xs k 0 0 0 requests) ≡ deckRun deck requests
   unfolding deckRun

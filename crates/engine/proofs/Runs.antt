@@ -1,10 +1,11 @@
 -- Laws of a run: an attempt that is not refused leads on, one that is refused ends it.
 -- Assumes nothing.
-use Prim.Native.Nat.{ℕ, suc, _+_, _-_, _*_, _<_, _≤_}
-use mathlib.Core.Path.{_≡_, refl, ap, _∙_, sym}
+use Prim.Native.Nat.{ℕ, suc, _+_, _-_, _*_, _<_, _≤_, zero}
+use mathlib.Core.Path.{_≡_, refl, ap, _∙_}
 use mathlib.Core.List.{List, [], _∷_}
 use native.Mathlib.Omega.{arith}
 use native.Mathlib.Numerals.{add-one}
+use lib.ListN.{length}
 use borrow.Author.Tests.{eq-eqb, ne-eqb}
 use Rattle.attempt.specs.Attempt.{Ended, attemptOf}
 use Rattle.attempt_laws.proofs.Refusal.{refusal-keeps}
@@ -13,6 +14,11 @@ use Rattle.rows.specs.declared.Row.{Row}
 use Rattle.state.specs.declared.Core.{Core}
 use Rattle.state.specs.declared.Sample.{Sample}
 use Rattle.engine.specs.Run.{World, world, put4Of, steppedOf, stoppedOf, runFrom, samplesFrom}
+
+pub samples-length : (s : List ℕ) (n i : ℕ) → length (samplesFrom s i n) ≡ n
+unfolding samplesFrom
+samples-length s zero i = refl
+samples-length s (suc n) i = ap suc (samples-length s n (suc i))
 
 -- the samples that are left, before and after one of them
 samples-step : (s : List ℕ) (i n : ℕ) → i < n → samplesFrom s i (n - i) ≡ sampleAt s i ∷ samplesFrom s (i + 1) (n - (i + 1))
@@ -28,7 +34,7 @@ samples-end s i n l =
     rw e
 
 module _ (ws : List ℕ) (rs : List Row) where
-  run-cons : (s : Sample) (ss : List Sample) (w : World) (e : Ended) → e ≡ attemptOf ws rs (w .file) (w .core) s → e .outcome .refusal ≡ 0
+  pub run-cons : (s : Sample) (ss : List Sample) (w : World) (e : Ended) → e ≡ attemptOf ws rs (w .file) (w .core) s → e .outcome .refusal ≡ 0
       → runFrom ws rs (s ∷ ss) w ≡ runFrom ws rs ss (steppedOf w e)
   unfolding runFrom
   run-cons s ss w e made h = rw (← made, eq-eqb (e .outcome .refusal) 0 h)

@@ -5,7 +5,7 @@ use lib.Dec.{eqb}
 use lib.ListN.{length}
 use Rattle.choose.specs.Ranged.{pick}
 use Rattle.deck.specs.Sections.{wordsPart, rowsPart, statePart, samplesPart}
-use Rattle.deck.specs.Ranges.{refusalOf}
+use Rattle.deck.specs.Ranges.{deckRefusalOf}
 use Rattle.rows.specs.Section.{rowsOf}
 use Rattle.state_bytes.specs.Bytes.{fileOf, coreOf, storedOf}
 use Rattle.engine.specs.declared.Report.{Report}
@@ -34,7 +34,7 @@ deckRun deck requests =
 -- written there"
 unfoldable pub hostOf : List ℕ → List ℕ → List ℕ → Hosted
 hostOf deck requests state =
-    let number = refusalOf deck (length requests) (length state) in
+    let number = deckRefusalOf deck (length requests) (length state) in
     let w = deckRun deck requests in
     pick (eqb number 0)
     (hosted (reported (w .answer) (w .attempts) (w .microcycles)) (w .buffer) (storedOf (w .file) (w .core) state))

@@ -9,7 +9,7 @@ use Rattle.deck.specs.Elements.{sampleAt}
 use Rattle.rows.specs.declared.Row.{Row}
 use Rattle.state.specs.declared.Core.{Core}
 use Rattle.state.specs.declared.Sample.{Sample}
-use Rattle.engine.specs.declared.Ran.{Ran}
+use Rattle.engine.specs.declared.RunEnd.{RunEnd}
 
 -- all that a run has so far: registers and the rest of the state, the answer, the counts, and the request buffer's bytes
 pub record World : Type 0 where
@@ -50,6 +50,9 @@ unfoldable pub samplesFrom : List ℕ → ℕ → ℕ → List Sample
 samplesFrom s i zero = []
 samplesFrom s i (suc n) = sampleAt s i ∷ samplesFrom s (suc i) n
 
+abbrev pub runEnd : Core → ℕ → ℕ → ℕ → RunEnd
+runEnd k answer attempts microcycles = record { core = k; answer = answer; attempts = attempts; microcycles = microcycles }
+
 -- what a run leaves, with the registers and the places
-abbrev pub worldOf : Ran → List ℕ → List ℕ → World
+abbrev pub worldOf : RunEnd → List ℕ → List ℕ → World
 worldOf r xs b = world xs (r .core) (r .answer) (r .attempts) (r .microcycles) b

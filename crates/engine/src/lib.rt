@@ -4,7 +4,7 @@ use state::Core;
 ghost use mathlib.Core.Path.{_≡_};
 ghost use Prim.Native.Nat.{_*_, _+_, _≤_};
 ghost use lib.ListN.{length, take};
-ghost use Rattle.engine.specs.Run.{world, put4Of, runFrom, samplesFrom, worldOf};
+ghost use Rattle.engine.specs.Run.{world, put4Of, runFrom, samplesFrom, runEnd, worldOf};
 ghost use Rattle.engine.specs.Host.{hosted, hostOf};
 
 fn put4(b: &mut [u8], at: usize, x: u32)
@@ -18,11 +18,22 @@ fn put4(b: &mut [u8], at: usize, x: u32)
 }
 
 // What a run leaves besides the registers and the places.
-pub struct Ran {
+pub struct RunEnd {
     pub core: Core,
     pub answer: u8,
     pub attempts: usize,
     pub microcycles: u32,
+}
+
+fn leaves(core: Core, answer: u8, attempts: usize, microcycles: u32) -> RunEnd
+    ensures { λ r. ⌜ r ≡ runEnd core answer attempts microcycles ⌝ }
+{
+    RunEnd {
+        core,
+        answer,
+        attempts,
+        microcycles,
+    }
 }
 
 // An attempt for each of n samples, until one is refused.
@@ -35,7 +46,7 @@ fn attempts(
     file: &mut [u8; 26],
     first: Core,
     n: usize,
-) -> Ran
+) -> RunEnd
     requires { ⌜ (n ≤ 65535) × (n * 4 ≤ length (now requests)) ⌝ }
     ensures short { λ r. ⌜ r .attempts ≤ n ⌝ }
     ensures whole { λ r. ⌜ worldOf r (now (file .exit)) (now (requests .exit)) ≡ runFrom (now (words .entry)) (take m table) (samplesFrom (now (samples .entry)) 0 n) (world (now (file .entry)) first 0 0 0 (now (requests .entry))) ⌝ }
@@ -48,24 +59,14 @@ fn attempts(
         let o = attempt::attempt(words, table, m, file, core, s);
         let answer = o.refusal;
         if answer != 0 {
-            return Ran {
-                core,
-                answer,
-                attempts: i,
-                microcycles,
-            };
+            return leaves(core, answer, i, microcycles);
         }
         put4(requests, i * 4, o.request);
         microcycles += o.cycles as u32;
         core = o.core;
         i += 1;
     }
-    Ran {
-        core,
-        answer: 0,
-        attempts: i,
-        microcycles,
-    }
+    leaves(core, 0, i, microcycles)
 }
 
 #[repr(C)]

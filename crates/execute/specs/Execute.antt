@@ -1,5 +1,5 @@
 -- What each executed instruction does to the registers and the flags. 01, "Codes, cycles and flags".
-use Prim.Native.Nat.{ℕ, _+_, _*_, _/_, _%_}
+use Prim.Native.Nat.{ℕ, _/_, _%_}
 use mathlib.Core.Bool.{Bool, true, false}
 use mathlib.Core.List.{List, [], _∷_}
 use lib.Dec.{eqb}
@@ -15,7 +15,7 @@ use Rattle.cycles.specs.Cycles.{Made, made, oneCycleOf, twoCyclesOf}
 use Rattle.cycles.specs.declared.Names.{Names}
 use Rattle.cycles.specs.declared.Operand.{Operand}
 use Rattle.cycles.specs.declared.Plan.{Plan}
-use Rattle.plan.specs.Plan.{does, planOf, goesOf, literalPlanOf}
+use Rattle.plan.specs.Plan.{planWith, planOf, conditionMet, literalPlanOf}
 
 abbrev pub names : ℕ → ℕ → Names
 names a b = record { a = a; b = b }
@@ -50,7 +50,7 @@ copiedOf xs g f a = made (writtenOf xs g a (flagByteOf f)) f
 
 -- "CIB adds C8; CDB adds 255 and C8"
 unfoldable pub steppedByOf : List ℕ → ℕ → Flags → ℕ → ℕ → Made
-steppedByOf xs g f a by = oneCycleOf xs g f (does Kind.Add Operand.A (Operand.Number by) (f .c8) true) (names a a) false
+steppedByOf xs g f a by = oneCycleOf xs g f (planWith Kind.Add Operand.A (Operand.Number by) (f .c8) true) (names a a) false
 
 -- RI, SI; CCF; LCF; RTSR, LGL; CIB; CDB
 unfoldable pub seventiesOf : List ℕ → ℕ → Flags → ℕ → ℕ → ℕ → Made
@@ -69,7 +69,7 @@ workedOf xs g f code b a =
 
 -- "A failed condition .. changes registers and flags not at all"
 unfoldable pub workOf : List ℕ → ℕ → Flags → Bool → ℕ → ℕ → ℕ → Made
-workOf xs g f ics code b a = pick (goesOf code (f .c) ics) (workedOf xs g f code b a) (made xs f)
+workOf xs g f ics code b a = pick (conditionMet code (f .c) ics) (workedOf xs g f code b a) (made xs f)
 
 -- "b mod 4: 0 upper, 1 lower, 2 upper if M bit 0, else lower, 3 the reverse"
 unfoldable pub upperOf : ℕ → ℕ → Bool
@@ -82,7 +82,7 @@ selectedOf dal m b = pick (upperOf m b) (dal / 256) (dal % 256)
 unfoldable pub inputOf : List ℕ → ℕ → Flags → ℕ → ℕ → ℕ → ℕ → ℕ → Made
 inputOf xs g f code dal m b a =
     let odd = eqb (code % 2) 1 in
-    let taking : ℕ → Plan = λ n. does Kind.Move Operand.A (Operand.Number n) false true in
+    let taking : ℕ → Plan = λ n. planWith Kind.Move Operand.A (Operand.Number n) false true in
     pick (eqb (code / 2 % 2) 0)
     (oneCycleOf xs g f (taking (selectedOf dal m b)) (names a a) odd)
     (twoCyclesOf xs g f (taking dal) (names a a) (names (highOf a) (highOf a)) odd)
@@ -93,7 +93,7 @@ gainOf code = pick (eqb (code / 4 % 2) 0) 1 2
 -- "F0-F7: Ra gains 1 or 2; the word codes then add the carry to Rb. Status only."
 unfoldable pub accessOf : List ℕ → ℕ → Flags → ℕ → ℕ → ℕ → Made
 accessOf xs g f code b a =
-    let gains = does Kind.Add Operand.A (Operand.Number (gainOf code)) false true in
+    let gains = planWith Kind.Add Operand.A (Operand.Number (gainOf code)) false true in
     pick (eqb (code / 2 % 2) 0) (oneCycleOf xs g f gains (names a a) false) (twoCyclesOf xs g f gains (names a a) (names b b) false)
 
 -- 70-77, 80-DF, E0-E7, F0-F7 by their parts; MI, LTR and F8-FF leave registers and flags

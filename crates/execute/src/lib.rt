@@ -60,7 +60,7 @@ fn loaded(f: Flags, ra: u8, b: u8) -> Flags
 fn stepped_by(file: &mut [u8; 26], g: u8, f: Flags, a: u8, by: u16) -> Flags
     ensures { λ r. ⌜ made (now (file .exit)) r ≡ steppedByOf (now (file .entry)) g f a by ⌝ }
 {
-    let p = plan::does(Kind::Add, Operand::A, Operand::Number(by), f.c8, true);
+    let p = plan::plan_with(Kind::Add, Operand::A, Operand::Number(by), f.c8, true);
     cycles::one_cycle(file, g, f, p, Names { a, b: a }, false)
 }
 
@@ -111,7 +111,7 @@ fn worked(file: &mut [u8; 26], g: u8, f: Flags, code: u8, b: u8, a: u8) -> Flags
 fn work(file: &mut [u8; 26], g: u8, f: Flags, ics: bool, code: u8, b: u8, a: u8) -> Flags
     ensures { λ r. ⌜ made (now (file .exit)) r ≡ workOf (now (file .entry)) g f ics code b a ⌝ }
 {
-    if plan::goes(code, f.c, ics) {
+    if plan::condition_met(code, f.c, ics) {
         return worked(file, g, f, code, b, a);
     }
     f
@@ -146,10 +146,10 @@ fn input(file: &mut [u8; 26], g: u8, f: Flags, code: u8, dal: u16, m: u16, b: u8
     let low = Names { a, b: a };
     if code / 2 % 2 == 0 {
         let byte = selected(dal, m, b);
-        let p = plan::does(Kind::Move, Operand::A, Operand::Number(byte), false, true);
+        let p = plan::plan_with(Kind::Move, Operand::A, Operand::Number(byte), false, true);
         return cycles::one_cycle(file, g, f, p, low, odd);
     }
-    let p = plan::does(Kind::Move, Operand::A, Operand::Number(dal), false, true);
+    let p = plan::plan_with(Kind::Move, Operand::A, Operand::Number(dal), false, true);
     let high_a = state::high(a);
     cycles::two_cycles(
         file,
@@ -179,7 +179,7 @@ fn access(file: &mut [u8; 26], g: u8, f: Flags, code: u8, b: u8, a: u8) -> Flags
     ensures { λ r. ⌜ made (now (file .exit)) r ≡ accessOf (now (file .entry)) g f code b a ⌝ }
 {
     let by = gain(code);
-    let p = plan::does(Kind::Add, Operand::A, Operand::Number(by), false, true);
+    let p = plan::plan_with(Kind::Add, Operand::A, Operand::Number(by), false, true);
     let low = Names { a, b: a };
     if code / 2 % 2 == 0 {
         return cycles::one_cycle(file, g, f, p, low, false);

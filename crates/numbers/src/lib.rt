@@ -1,7 +1,6 @@
 // Numbers in bytes, the low byte first. A byte past the end reads as 0, so that a place asks nothing of its reader.
 ghost use mathlib.Core.Path.{_≡_};
-ghost use Prim.Native.Nat.{_+_, _*_};
-ghost use Rattle.numbers.specs.Numbers.{byteAt, pairAt, quadAt};
+ghost use Rattle.numbers.specs.Numbers.{byteAt, pairOf, pairAt, quadAt};
 
 pub fn byte_at(s: &[u8], a: usize) -> u8
     ensures { λ r. ⌜ r ≡ byteAt (now (s .entry)) a ⌝ }
@@ -13,7 +12,7 @@ pub fn byte_at(s: &[u8], a: usize) -> u8
 }
 
 pub fn pair(low: u8, high: u8) -> u16
-    ensures { λ r. ⌜ r ≡ low + 256 * high ⌝ }
+    ensures { λ r. ⌜ r ≡ pairOf low high ⌝ }
 {
     low as u16 + 256 * (high as u16)
 }

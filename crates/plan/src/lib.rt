@@ -4,10 +4,10 @@ use alu::Kind;
 use cycles::Operand;
 use cycles::Plan;
 ghost use mathlib.Core.Path.{_≡_};
-ghost use Rattle.plan.specs.Plan.{does, planOf, goesOf, literalPlanOf};
+ghost use Rattle.plan.specs.Plan.{planWith, planOf, conditionMet, literalPlanOf};
 
-pub fn does(kind: Kind, p: Operand, q: Operand, carry: bool, stores: bool) -> Plan
-    ensures { λ r. ⌜ r ≡ does kind p q carry stores ⌝ }
+pub fn plan_with(kind: Kind, p: Operand, q: Operand, carry: bool, stores: bool) -> Plan
+    ensures { λ r. ⌜ r ≡ planWith kind p q carry stores ⌝ }
 {
     Plan {
         kind,
@@ -22,33 +22,33 @@ pub fn plan(code: u8, f: Flags) -> Plan
     ensures { λ r. ⌜ r ≡ planOf code f ⌝ }
 {
     match code {
-        0x00..=0x87 => does(Kind::Move, Operand::A, Operand::B, false, true),
-        0x88..=0x8B => does(Kind::Left, Operand::A, Operand::B, f.c, true),
-        0x8C..=0x8F => does(Kind::Left, Operand::A, Operand::B, false, true),
-        0x90..=0x93 => does(Kind::Add, Operand::B, Operand::Number(1), false, true),
-        0x94..=0x97 => does(Kind::Add, Operand::B, Operand::Number(2), false, true),
-        0x98..=0x9B => does(Kind::Subtract, Operand::Number(0), Operand::B, true, true),
-        0x9C..=0x9F => does(Kind::Ones, Operand::A, Operand::B, false, true),
-        0xA0..=0xA7 => does(Kind::Add, Operand::A, Operand::B, false, true),
-        0xA8..=0xAB => does(Kind::Add, Operand::A, Operand::B, f.c, true),
-        0xAC..=0xAF => does(Kind::Add, Operand::A, Operand::B, false, true),
-        0xB0..=0xB3 => does(Kind::Subtract, Operand::A, Operand::B, true, true),
-        0xB4..=0xB7 => does(Kind::Subtract, Operand::A, Operand::B, true, false),
-        0xB8..=0xBB => does(Kind::Subtract, Operand::A, Operand::B, !f.c, true),
-        0xBC..=0xBF => does(Kind::Subtract, Operand::B, Operand::Number(1), true, true),
-        0xC0..=0xC3 => does(Kind::And, Operand::A, Operand::B, false, true),
-        0xC4..=0xC7 => does(Kind::And, Operand::A, Operand::B, false, false),
-        0xC8..=0xCB => does(Kind::Or, Operand::A, Operand::B, false, true),
-        0xCC..=0xCF => does(Kind::Exclusive, Operand::A, Operand::B, false, true),
-        0xD0..=0xD7 => does(Kind::AndNot, Operand::A, Operand::B, false, true),
-        0xD8..=0xDB => does(Kind::Right, Operand::A, Operand::B, f.c, true),
-        _ => does(Kind::Right, Operand::A, Operand::B, false, true),
+        0x00..=0x87 => plan_with(Kind::Move, Operand::A, Operand::B, false, true),
+        0x88..=0x8B => plan_with(Kind::Left, Operand::A, Operand::B, f.c, true),
+        0x8C..=0x8F => plan_with(Kind::Left, Operand::A, Operand::B, false, true),
+        0x90..=0x93 => plan_with(Kind::Add, Operand::B, Operand::Number(1), false, true),
+        0x94..=0x97 => plan_with(Kind::Add, Operand::B, Operand::Number(2), false, true),
+        0x98..=0x9B => plan_with(Kind::Subtract, Operand::Number(0), Operand::B, true, true),
+        0x9C..=0x9F => plan_with(Kind::Ones, Operand::A, Operand::B, false, true),
+        0xA0..=0xA7 => plan_with(Kind::Add, Operand::A, Operand::B, false, true),
+        0xA8..=0xAB => plan_with(Kind::Add, Operand::A, Operand::B, f.c, true),
+        0xAC..=0xAF => plan_with(Kind::Add, Operand::A, Operand::B, false, true),
+        0xB0..=0xB3 => plan_with(Kind::Subtract, Operand::A, Operand::B, true, true),
+        0xB4..=0xB7 => plan_with(Kind::Subtract, Operand::A, Operand::B, true, false),
+        0xB8..=0xBB => plan_with(Kind::Subtract, Operand::A, Operand::B, !f.c, true),
+        0xBC..=0xBF => plan_with(Kind::Subtract, Operand::B, Operand::Number(1), true, true),
+        0xC0..=0xC3 => plan_with(Kind::And, Operand::A, Operand::B, false, true),
+        0xC4..=0xC7 => plan_with(Kind::And, Operand::A, Operand::B, false, false),
+        0xC8..=0xCB => plan_with(Kind::Or, Operand::A, Operand::B, false, true),
+        0xCC..=0xCF => plan_with(Kind::Exclusive, Operand::A, Operand::B, false, true),
+        0xD0..=0xD7 => plan_with(Kind::AndNot, Operand::A, Operand::B, false, true),
+        0xD8..=0xDB => plan_with(Kind::Right, Operand::A, Operand::B, f.c, true),
+        _ => plan_with(Kind::Right, Operand::A, Operand::B, false, true),
     }
 }
 
 // Whether a condition lets the code work: C for CMB, CMW, CAB and CAW, ICS for CAWI.
-pub fn goes(code: u8, c: bool, ics: bool) -> bool
-    ensures { λ r. ⌜ r ≡ goesOf code c ics ⌝ }
+pub fn condition_met(code: u8, c: bool, ics: bool) -> bool
+    ensures { λ r. ⌜ r ≡ conditionMet code c ics ⌝ }
 {
     match code {
         0x00..=0x83 => true,
@@ -61,15 +61,15 @@ pub fn goes(code: u8, c: bool, ics: bool) -> bool
     }
 }
 
-// 20-6F: AL, NL, TL and LL; CL's carries are its own affair.
+// 20-6F: AL, NL, TL and LL. CL, 30-3F, is no plan: it keeps C4 and C8.
 pub fn literal_plan(code: u8, value: u8) -> Plan
     ensures { λ r. ⌜ r ≡ literalPlanOf code value ⌝ }
 {
     let n = Operand::Number(value as u16);
     match code {
-        0x00..=0x3F => does(Kind::Add, Operand::A, n, false, true),
-        0x40..=0x4F => does(Kind::And, Operand::A, n, false, true),
-        0x50..=0x5F => does(Kind::And, Operand::A, n, false, false),
-        _ => does(Kind::Move, Operand::A, n, false, true),
+        0x00..=0x3F => plan_with(Kind::Add, Operand::A, n, false, true),
+        0x40..=0x4F => plan_with(Kind::And, Operand::A, n, false, true),
+        0x50..=0x5F => plan_with(Kind::And, Operand::A, n, false, false),
+        _ => plan_with(Kind::Move, Operand::A, n, false, true),
     }
 }

@@ -1,6 +1,6 @@
 -- Laws that other crates cite, each by induction over the rows: of no rows, of rows in range, and of the table that `load` makes. Assumes nothing.
 use mathlib.Core.Path.{_≡_, refl}
-use mathlib.Core.Bool.{Bool, true, false, _&&_, false≢true, and-eq-true-iff, and-assoc}
+use mathlib.Core.Bool.{true, _&&_, and-eq-true-iff, and-assoc}
 use mathlib.Core.List.{List, [], _∷_, _++_}
 use Prim.Native.Nat.{ℕ, zero, suc, _*_, _≤_, zero-le}
 use native.Mathlib.Numerals.{add-one}
@@ -10,11 +10,13 @@ use lib.Bits.{or-lt}
 use lib.Dec.{leb}
 use lib.ListN.{length, take, length-append}
 use lib.Seq.{take-at}
+use Rattle.choose.proofs.Choice.{pick-all}
+use Rattle.choose.proofs.Tests.{three}
 use Rattle.rows.specs.declared.Row.{Row}
 use Rattle.rows.specs.declared.Inputs.{Inputs}
 use Rattle.rows.specs.declared.Outputs.{Outputs}
-use Rattle.rows.specs.Scan.{matchedOf, ored, pickOutputs, mergedOf, none, scanFrom, scanOf}
-use Rattle.rows.specs.Section.{rowsOf, wholeRows, filledOf, tableOf}
+use Rattle.rows.specs.Scan.{matchedOf, ored, mergedOf, none, scanFrom, scanOf}
+use Rattle.rows.specs.Section.{rowsOf, wholeRows, filledTable, tableOf}
 use Rattle.rows.specs.Range.{masksFit, outputsFit, valuesInMasks, rowInRange, rowsInRange, OutputsInRange}
 
 -- ---- no rows
@@ -23,12 +25,6 @@ unfolding scanFrom
 scan-none i = refl
 
 -- ---- rows in range
--- three tests that hold together
-three : (a b c : Bool) → a && b && c ≡ true → (a ≡ true) × (b ≡ true) × (c ≡ true)
-three true true c h = (refl, refl, h)
-three true false c h = absurd (false≢true h)
-three false b c h = absurd (false≢true h)
-
 -- a row in range puts out what is in range
 row-outputs : (r : Row) → rowInRange r ≡ true → (r .address ≤ 2047) × (r .lines ≤ 7) × (r .«new_tsr» ≤ 7)
 unfolding rowInRange outputsFit
@@ -47,13 +43,9 @@ ored-in-range o r g h =
       tsr = omega (arith, or-lt 3 (o .«new_tsr») (r .«new_tsr») (omega arith) (omega arith));
     }
 
-picked-in-range : (t : Bool) (a b : Outputs) → OutputsInRange a → OutputsInRange b → OutputsInRange (pickOutputs t a b)
-picked-in-range true a b g h = g
-picked-in-range false a b g h = h
-
 merged-in-range : (o : Outputs) (r : Row) (i : Inputs) → OutputsInRange o → rowInRange r ≡ true → OutputsInRange (mergedOf o r i)
 unfolding mergedOf
-merged-in-range o r i g h = picked-in-range (matchedOf r i) (ored o r) o (ored-in-range o r g h) g
+merged-in-range o r i g h = pick-all OutputsInRange (matchedOf r i) (ored o r) o (ored-in-range o r g h) g
 
 from-in-range : (o : Outputs) (rs : List Row) (i : Inputs) → OutputsInRange o → rowsInRange rs ≡ true → OutputsInRange (scanFrom o rs i)
 unfolding scanFrom rowsInRange
@@ -80,7 +72,7 @@ rows-length s (suc n) = rw (length-append, rows-length s n) (add-one n)
 
 -- a section of n rows, at most 128: they are the first n of its table
 pub table-rows : (s : List ℕ) (n : ℕ) → n ≤ 128 → length s ≡ n * 16 → take n (tableOf s) ≡ rowsOf s n
-unfolding filledOf
+unfolding filledTable
 table-rows s n l e =
     let h : wholeRows s ≡ n = omega arith in
     rw h (take-at (rowsOf s n) _ n (rows-length s n))

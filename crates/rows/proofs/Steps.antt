@@ -1,4 +1,4 @@
--- The steps of the loops of `scan` and `load`, one row more and none left, and what `over` lends, by the laws of lists. Assumes nothing.
+-- The steps of the loops of `scan` and `load`, one row more and none left, and what `scan_table` lends, by the laws of lists. Assumes nothing.
 use mathlib.Core.Path.{_≡_, refl, ap}
 use mathlib.Core.List.{List, [], _∷_, append-assoc}
 use Prim.Native.Nat.{ℕ, zero, suc, _+_, _-_, _*_, _<_, _≤_, min}
@@ -11,7 +11,7 @@ use Rattle.rows.specs.declared.Row.{Row}
 use Rattle.rows.specs.declared.Inputs.{Inputs}
 use Rattle.rows.specs.declared.Outputs.{Outputs}
 use Rattle.rows.specs.Scan.{mergedOf, scanFrom}
-use Rattle.rows.specs.Section.{emptyRow, atMost128, rowOf, rowsOf, filledOf}
+use Rattle.rows.specs.Section.{emptyRow, atMost128, rowFrom, rowsOf, filledTable}
 use Rattle.rows.proofs.Laws.{rows-length}
 
 -- the row at k, as `scan` reads it
@@ -38,19 +38,19 @@ pub take-at-most : (n : ℕ) (rs : List Row) → length rs ≡ 128 → take (atM
 take-at-most n rs e = rw (← e) (take-min n rs)
 
 -- the start of `load`: an empty table
-pub filled-none : (s : List ℕ) → replicate 128 emptyRow ≡ filledOf s 0
-unfolding filledOf rowsOf
+pub filled-none : (s : List ℕ) → replicate 128 emptyRow ≡ filledTable s 0
+unfolding filledTable rowsOf
 filled-none s = refl
 
 empty-more : (k : ℕ) → k < 128 → replicate (128 - k) emptyRow ≡ emptyRow ∷ replicate (128 - suc k) emptyRow
 empty-more k l = let e : 128 - k ≡ suc (128 - suc k) = omega arith in rw e
 
 -- a turn of `load`: the row is stored at k, and the rows before it stand
-pub filled-more : (s : List ℕ) (k : ℕ) (r : Row) → k < 128 → r ≡ rowOf s (k * 16) → set (filledOf s k) k r ≡ filledOf s (k + 1)
-unfolding filledOf rowsOf
+pub filled-more : (s : List ℕ) (k : ℕ) (r : Row) → k < 128 → r ≡ rowFrom s (k * 16) → set (filledTable s k) k r ≡ filledTable s (k + 1)
+unfolding filledTable rowsOf
 filled-more s k r l e = rw (add-one, empty-more k l, set-at (rowsOf s k) emptyRow (replicate (128 - suc k) emptyRow) r k (rows-length s k), append-assoc, e)
 
 -- a table has 128 rows, however many of them are filled
-pub filled-length : (s : List ℕ) (k : ℕ) → k ≤ 128 → length (filledOf s k) ≡ 128
-unfolding filledOf
+pub filled-length : (s : List ℕ) (k : ℕ) → k ≤ 128 → length (filledTable s k) ≡ 128
+unfolding filledTable
 filled-length s k l = simp (length-append, length-replicate, rows-length) (omega arith)

@@ -1,9 +1,10 @@
 -- Translation rows: which of them match, and what all matching rows put out.
-use mathlib.Core.Bool.{Bool, true, false, _&&_}
+use mathlib.Core.Bool.{Bool, _&&_}
 use mathlib.Core.List.{List, [], _∷_}
 use Prim.Native.Nat.{ℕ, _/_, _%_}
 use lib.Dec.{eqb}
 use lib.Bits.{bitAnd, bitOr}
+use Rattle.choose.specs.Ranged.{pick}
 use Rattle.rows.specs.declared.Row.{Row}
 use Rattle.rows.specs.declared.Inputs.{Inputs}
 use Rattle.rows.specs.declared.Outputs.{Outputs}
@@ -26,13 +27,9 @@ matchedOf r i =
 abbrev pub ored : Outputs → Row → Outputs
 ored o r = record { address = bitOr (o .address) (r .address); lines = bitOr (o .lines) (r .lines); «new_tsr» = bitOr (o .«new_tsr») (r .«new_tsr») }
 
-abbrev pub pickOutputs : Bool → Outputs → Outputs → Outputs
-pickOutputs true a b = a
-pickOutputs false a b = b
-
 -- what one more row makes of the outputs: they change only where it matches
 unfoldable pub mergedOf : Outputs → Row → Inputs → Outputs
-mergedOf o r i = pickOutputs (matchedOf r i) (ored o r) o
+mergedOf o r i = pick (matchedOf r i) (ored o r) o
 
 -- no outputs
 abbrev pub none : Outputs

@@ -1,36 +1,33 @@
 -- The rows section of a deck: "Rows: 16 bytes", "low first".
 use mathlib.Core.List.{List, [], _∷_, _++_}
 use Prim.Native.Nat.{ℕ, zero, suc, _+_, _-_, _*_, _/_, min}
-use lib.ListN.{length, getD, replicate}
+use lib.ListN.{length, replicate}
+use Rattle.numbers.specs.Numbers.{byteAt, pairAt}
 use Rattle.rows.specs.declared.Row.{Row}
-
--- "two bytes, low first; so are all numbers here"
-abbrev pub pairAt : List ℕ → ℕ → ℕ
-pairAt s a = getD s a 0 + 256 * getD s (a + 1) 0
 
 -- "LC mask, LC value (2 each), RNI mask and value, TR byte mask and value, TSR mask and value, interrupt mask and value
 -- (1 each), address (2), lines (bit 0 LTA, 1 LRA, 2 LTSR), new TSR": the row that begins at byte a
-unfoldable pub rowOf : List ℕ → ℕ → Row
-rowOf s a = record {
+unfoldable pub rowFrom : List ℕ → ℕ → Row
+rowFrom s a = record {
   «lc_mask» = pairAt s a;
   «lc_value» = pairAt s (a + 2);
-  «rni_mask» = getD s (a + 4) 0;
-  «rni_value» = getD s (a + 5) 0;
-  «tr_mask» = getD s (a + 6) 0;
-  «tr_value» = getD s (a + 7) 0;
-  «tsr_mask» = getD s (a + 8) 0;
-  «tsr_value» = getD s (a + 9) 0;
-  «interrupt_mask» = getD s (a + 10) 0;
-  «interrupt_value» = getD s (a + 11) 0;
+  «rni_mask» = byteAt s (a + 4);
+  «rni_value» = byteAt s (a + 5);
+  «tr_mask» = byteAt s (a + 6);
+  «tr_value» = byteAt s (a + 7);
+  «tsr_mask» = byteAt s (a + 8);
+  «tsr_value» = byteAt s (a + 9);
+  «interrupt_mask» = byteAt s (a + 10);
+  «interrupt_value» = byteAt s (a + 11);
   address = pairAt s (a + 12);
-  lines = getD s (a + 14) 0;
-  «new_tsr» = getD s (a + 15) 0;
+  lines = byteAt s (a + 14);
+  «new_tsr» = byteAt s (a + 15);
 }
 
 -- the first n rows of the section
 unfoldable pub rowsOf : List ℕ → ℕ → List Row
 rowsOf s zero = []
-rowsOf s (suc n) = rowsOf s n ++ (rowOf s (n * 16) ∷ [])
+rowsOf s (suc n) = rowsOf s n ++ (rowFrom s (n * 16) ∷ [])
 
 -- the row of sixteen zero bytes: it matches always and puts nothing out
 abbrev pub emptyRow : Row
@@ -59,9 +56,9 @@ abbrev pub wholeRows : List ℕ → ℕ
 wholeRows s = atMost128 (length s / 16)
 
 -- the first n rows, and empty rows up to 128
-unfoldable pub filledOf : List ℕ → ℕ → List Row
-filledOf s n = rowsOf s n ++ replicate (128 - n) emptyRow
+unfoldable pub filledTable : List ℕ → ℕ → List Row
+filledTable s n = rowsOf s n ++ replicate (128 - n) emptyRow
 
 -- the table of the section's whole rows
 abbrev pub tableOf : List ℕ → List Row
-tableOf s = filledOf s (wholeRows s)
+tableOf s = filledTable s (wholeRows s)

@@ -1,9 +1,9 @@
 // Translation rows: a rows section made a table, the range test of a row, and the outputs of all rows that match.
 ghost use mathlib.Core.Path.{_≡_};
-ghost use Prim.Native.Nat.{_+_, _*_, _<_, _≤_};
+ghost use Prim.Native.Nat.{_+_, _≤_};
 ghost use lib.ListN.{length, take};
-ghost use Rattle.rows.specs.Scan.{matchedOf, mergedOf, scanOf, lta, lra, ltsr};
-ghost use Rattle.rows.specs.Section.{pairAt, rowOf, atMost128, tableOf};
+ghost use Rattle.rows.specs.Scan.{matchedOf, mergedOf, none, scanOf, lta, lra, ltsr};
+ghost use Rattle.rows.specs.Section.{rowFrom, atMost128, tableOf};
 ghost use Rattle.rows.specs.Range.{masksFit, outputsFit, valuesInMasks, rowInRange};
 
 // A row as its sixteen bytes give it, in their order.
@@ -65,6 +65,16 @@ pub fn merged(o: Outputs, row: Row, i: Inputs) -> Outputs
     o
 }
 
+pub fn none() -> Outputs
+    ensures { λ r. ⌜ r ≡ none ⌝ }
+{
+    Outputs {
+        address: 0,
+        lines: 0,
+        new_tsr: 0,
+    }
+}
+
 // The outputs of all matching rows, ORed. The rows stay the caller's.
 pub fn scan(rows: &[Row], i: Inputs) -> Outputs
     ensures { λ r. ⌜ r ≡ scanOf (now (rows .entry)) i ⌝ }
@@ -91,7 +101,7 @@ fn at_most_128(n: usize) -> usize
 
 // The first n rows of a table are lent to scan: all of them where n is over 128. The table comes by value, and is copied:
 // a caller that has no rows does better not to call.
-pub fn over(table: [Row; 128], n: usize, i: Inputs) -> Outputs
+pub fn scan_table(table: [Row; 128], n: usize, i: Inputs) -> Outputs
     ensures { λ r. ⌜ r ≡ scanOf (take n table) i ⌝ }
 {
     let m = at_most_128(n);
@@ -147,28 +157,14 @@ pub fn in_range(row: Row) -> bool
     masks_fit(row) & outputs_fit(row) & values_in_masks(row)
 }
 
-// Two bytes, the low one first.
-fn pair(low: u8, high: u8) -> u16
-    ensures { λ r. ⌜ r ≡ low + 256 * high ⌝ }
-{
-    low as u16 + 256 * (high as u16)
-}
-
-fn pair_at(s: &[u8], a: usize) -> u16
-    requires { ⌜ a + 1 < length (now s) ⌝ }
-    ensures { λ r. ⌜ r ≡ pairAt (now (s .entry)) a ⌝ }
-{
-    pair(s[a], s[a + 1])
-}
-
 // The row that begins at byte a of a rows section.
-fn row_of(s: &[u8], a: usize) -> Row
+fn row_from(s: &[u8], a: usize) -> Row
     requires { ⌜ a + 16 ≤ length (now s) ⌝ }
-    ensures { λ r. ⌜ r ≡ rowOf (now (s .entry)) a ⌝ }
+    ensures { λ r. ⌜ r ≡ rowFrom (now (s .entry)) a ⌝ }
 {
     Row {
-        lc_mask: pair_at(s, a),
-        lc_value: pair_at(s, a + 2),
+        lc_mask: numbers::pair_at(s, a),
+        lc_value: numbers::pair_at(s, a + 2),
         rni_mask: s[a + 4],
         rni_value: s[a + 5],
         tr_mask: s[a + 6],
@@ -177,7 +173,7 @@ fn row_of(s: &[u8], a: usize) -> Row
         tsr_value: s[a + 9],
         interrupt_mask: s[a + 10],
         interrupt_value: s[a + 11],
-        address: pair_at(s, a + 12),
+        address: numbers::pair_at(s, a + 12),
         lines: s[a + 14],
         new_tsr: s[a + 15],
     }
@@ -206,7 +202,7 @@ pub fn load(s: &[u8]) -> [Row; 128]
     let n = at_most_128(s.len() / 16);
     let mut filled = 0;
     while filled < n {
-        table[filled] = row_of(s, filled * 16);
+        table[filled] = row_from(s, filled * 16);
         filled = filled + 1;
     }
     table

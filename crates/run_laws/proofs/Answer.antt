@@ -10,11 +10,12 @@ use borrow.Author.Tests.{eqb-true, eqb-false, ltb-true, lt-ltb}
 use lib.Bits.{or-lt}
 use lib.Dec.{eqb, ltb}
 use lib.ListN.{length}
-use Rattle.attempt.specs.Attempt.{Ended, wordAt, modifiedOf, refused, triedOf, takenOf, fetchedOf, attemptedOf, outputsOf, attemptOf}
-use Rattle.attempt_laws.proofs.Choice.{pick-all}
+use Rattle.attempt.specs.Attempt.{Ended, modifiedOf, refused, triedOf, takenOf, fetchedOf, attemptedOf, outputsOf, attemptOf}
+use Rattle.choose.proofs.Choice.{pick-all}
+use Rattle.numbers.specs.Numbers.{wordAt}
 use Rattle.attempt_laws.proofs.Range.{attempt-in-range}
 use Rattle.attempt_laws.proofs.Refusal.{executes}
-use Rattle.checks.specs.Checks.{oddOf, ofTwo, refusalOf, waitingOf}
+use Rattle.checks.specs.Checks.{oddDesignatorOf, designatorRefusalOf, wordRefusalOf, waitingOf}
 use Rattle.choose.specs.Ranged.{pick}
 use Rattle.code.specs.Rows.{classOf, listed, optionsOf}
 use Rattle.code.specs.Word.{topOf, apartOf}
@@ -63,15 +64,15 @@ module _ (ws : List ℕ) (rs : List Row) where
 
 -- ---- the numbers of an attempt
 
-two-number : (code b a : ℕ) → Number (ofTwo code b a)
-unfolding ofTwo
+two-number : (code b a : ℕ) → Number (designatorRefusalOf code b a)
+unfolding designatorRefusalOf
 two-number code b a =
     pick-all Number (eqb code 0xAC) _ _ (λ z. (omega arith, omega arith))
-    (pick-all Number (oddOf code b a) _ _ (λ z. (omega arith, omega arith))
+    (pick-all Number (oddDesignatorOf code b a) _ _ (λ z. (omega arith, omega arith))
     (pick-all Number (ltb (optionsOf code) b) _ _ (λ z. (omega arith, omega arith)) (λ z. absurd (z refl))))
 
-check-number : (code : ℕ) (o : Operands) → Number (refusalOf code o)
-unfolding refusalOf
+check-number : (code : ℕ) (o : Operands) → Number (wordRefusalOf code o)
+unfolding wordRefusalOf
 check-number code (Operands.Jump n) z = absurd (z refl)
 check-number code (Operands.Literal v r) z = absurd (z refl)
 check-number code (Operands.Two b a) z = two-number code b a z
@@ -91,7 +92,7 @@ module _ (xs : List ℕ) (k : Core) (s : Sample) (o : Outputs) where
   tried-number : (w : Fields) → Numbered (triedOf xs k w s o)
   unfolding triedOf
   tried-number w =
-      pick-all Numbered (eqb (refusalOf (w .code) (w .operands)) 0) _ _
+      pick-all Numbered (eqb (wordRefusalOf (w .code) (w .operands)) 0) _ _
       (pick-all Numbered (waitingOf (w .code) s) _ _ (λ z. absurd (z refl)) (λ z. absurd (z (executes xs k w s o))))
       (check-number (w .code) (w .operands))
 

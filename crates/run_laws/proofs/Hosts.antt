@@ -1,37 +1,29 @@
 -- What the host is told of an accepted deck: the answer, the counts and the places.
 -- Assumes nothing.
-use mathlib.Core.Path.{_≡_, refl, ap}
+use mathlib.Core.Path.{_≡_, refl}
 use mathlib.Core.List.{List}
-use Prim.Native.Nat.{ℕ, zero, suc, _*_, _/_, _<_, _≤_}
+use Prim.Native.Nat.{ℕ, _*_, _/_, _<_, _≤_}
 use native.Mathlib.Omega.{arith}
 use lib.ListN.{length, getD}
-use Rattle.deck.specs.Ranges.{refusalOf}
+use Rattle.deck.specs.Ranges.{deckRefusalOf}
 use Rattle.deck.specs.Sections.{layoutOf, wordsPart, rowsPart, statePart, samplesPart}
 use Rattle.deck.proofs.Laws.{accepted, section-bytes, rows-in-range, word-below}
 use Rattle.engine.specs.Host.{deckRun, hostOf}
-use Rattle.engine.specs.Run.{samplesFrom}
 use Rattle.engine.proofs.Hosts.{answers}
-use Rattle.attempt.specs.Attempt.{wordAt}
-use Rattle.numbers.specs.Numbers.{AllBytes}
+use Rattle.engine.proofs.Runs.{samples-length}
+use Rattle.numbers.specs.Numbers.{Bytes}
+use Rattle.state_bytes.proofs.Laws.{state-in-range}
 use Rattle.run_laws.specs.Laws.{WordsInRange, Number}
-use Rattle.run_laws.proofs.Again.{state-in-range, samples-in-range}
+use Rattle.run_laws.proofs.Again.{samples-in-range}
 use Rattle.run_laws.proofs.Answer.{run-counts, run-number}
 use Rattle.run_laws.proofs.Places.{run-places}
 
--- ---- what an accepted deck gives the run
-
-samples-length : (s : List ℕ) (n i : ℕ) → length (samplesFrom s i n) ≡ n
-unfolding samplesFrom
-samples-length s zero i = refl
-samples-length s (suc n) i = ap suc (samples-length s n (suc i))
-
-module _ (deck requests state : List ℕ) (h : refusalOf deck (length requests) (length state) ≡ 0) where
+module _ (deck requests state : List ℕ) (h : deckRefusalOf deck (length requests) (length state) ≡ 0) where
   words-in-range : WordsInRange (wordsPart deck)
-  unfolding wordAt
   words-in-range = word-below (wordsPart deck) (accepted deck (length requests) (length state) h .words)
 
   -- "at each attempt 5, 6, 7, 8": an accepted deck's answer is 0 or one of these
-  pub host-number : AllBytes deck → Number (hostOf deck requests state .report .answer)
+  pub host-number : Bytes deck → Number (hostOf deck requests state .report .answer)
   unfolding deckRun
   host-number b =
       let a = accepted deck (length requests) (length state) h in

@@ -4,3 +4,4 @@ pub mod Answer
 pub mod Places
 pub mod Pieces
 pub mod Hosts
+pub mod Written

@@ -12,44 +12,33 @@ use Rattle.attempt.specs.Attempt.{Ended, attemptOf}
 use Rattle.attempt_laws.proofs.Range.{attempt-request}
 use Rattle.choose.specs.Ranged.{pick}
 use Rattle.engine.specs.Run.{World, put4Of, steppedOf, stoppedOf, runFrom}
-use Rattle.numbers.specs.Numbers.{byteAt, quadAt}
+use Rattle.engine.proofs.Places.{put-quad}
+use Rattle.engine.proofs.Runs.{run-cons}
+use Rattle.numbers.specs.Numbers.{quadAt}
+use Rattle.numbers.proofs.Laws.{quad-same}
 use Rattle.rows.specs.Range.{rowsInRange}
 use Rattle.rows.specs.declared.Row.{Row}
 use Rattle.state.specs.Range.{InRange, SampleInRange}
 use Rattle.state.specs.declared.Sample.{Sample}
-use Rattle.run_laws.specs.Laws.{SamplesInRange}
+use Rattle.run_laws.specs.Laws.{SamplesInRange, further}
 use Rattle.run_laws.proofs.Range.{run-in-range}
-use Rattle.run_laws.proofs.Places.{put-quad, run-places}
-
-quad-same : (b c : List ℕ) (at : ℕ) → ((i : ℕ) → i < at + 4 → byteAt b i ≡ byteAt c i) → quadAt b at ≡ quadAt c at
-quad-same b c at f =
-    omega (arith, f at (omega arith), f (at + 1) (omega arith), f (at + 2) (omega arith), f (at + 2 + 1) (omega arith))
+use Rattle.run_laws.proofs.Places.{run-places}
 
 module _ (ws : List ℕ) (rs : List Row) where
-  -- the samples ts after a run that left v: none of them where it was refused
-  abbrev pub further : List Sample → World → World
-  further ts v = pick (eqb (v .answer) 0) (runFrom ws rs ts v) v
-
   -- one attempt with answer number, and then a where that is 0, which goes on from v
-  pieces-step : (ts : List Sample) (w a v : World) (number : ℕ) → a ≡ further ts v → (t : Bool) → eqb number 0 ≡ t
-      → pick t a (stoppedOf w number) ≡ further ts (pick t v (stoppedOf w number))
+  pieces-step : (ts : List Sample) (w a v : World) (number : ℕ) → a ≡ further ws rs ts v → (t : Bool) → eqb number 0 ≡ t
+      → pick t a (stoppedOf w number) ≡ further ws rs ts (pick t v (stoppedOf w number))
   unfolding stoppedOf
   pieces-step ts w a v number e true q = e
   pieces-step ts w a v number e false q = rw q
 
   -- "one for each attempt": a run over samples in two pieces is the one over them all
-  pub run-pieces : (ss ts : List Sample) (w : World) → w .answer ≡ 0 → runFrom ws rs (ss ++ ts) w ≡ further ts (runFrom ws rs ss w)
+  pub run-pieces : (ss ts : List Sample) (w : World) → w .answer ≡ 0 → runFrom ws rs (ss ++ ts) w ≡ further ws rs ts (runFrom ws rs ss w)
   unfolding runFrom steppedOf
   run-pieces [] ts w e = rw (eq-eqb _ 0 e)
   run-pieces (s ∷ ss) ts w e =
       let x = attemptOf ws rs (w .file) (w .core) s in
       pieces-step ts w _ (runFrom ws rs ss (steppedOf w x)) (x .outcome .refusal) (run-pieces ss ts (steppedOf w x) refl) _ refl
-
-  -- the attempt after the samples ss: where it is not refused, the run goes on from it
-  go-on : (ts : List Sample) (s : Sample) (v : World) → attemptOf ws rs (v .file) (v .core) s .outcome .refusal ≡ 0
-      → runFrom ws rs (s ∷ ts) v ≡ runFrom ws rs ts (steppedOf v (attemptOf ws rs (v .file) (v .core) s))
-  unfolding runFrom
-  go-on ts s v h = rw (eq-eqb _ 0 h)
 
   place-stays : (v : World) (x : Ended) (ts : List Sample) → v .attempts * 4 + 4 ≤ length (v .buffer) → x .outcome .request < 4294967296
       → quadAt (runFrom ws rs ts (steppedOf v x) .buffer) (v .attempts * 4) ≡ x .outcome .request
@@ -71,5 +60,4 @@ module _ (ws : List ℕ) (rs : List Row) where
       let size : length (v .buffer) ≡ length (w .buffer) = rw made (run-places ws rs ss w .size) in
       let small : e .outcome .request < 13 * 65536 = rw ended (attempt-request ws rs (v .file) (v .core) s inside d) in
       let here : eqb (runFrom ws rs ss w .answer) 0 ≡ true = rw (← made) (eq-eqb _ 0 a) in
-      let passes : attemptOf ws rs (v .file) (v .core) s .outcome .refusal ≡ 0 = rw (← ended) n in
-      rw (run-pieces ss (s ∷ ts) w z, here, ← made, go-on ts s v passes, ← ended) (place-stays v e ts (omega arith) (omega arith))
+      rw (run-pieces ss (s ∷ ts) w z, here, ← made, run-cons ws rs s ts v e ended n) (place-stays v e ts (omega arith) (omega arith))

@@ -6,7 +6,7 @@ use mathlib.Core.List.{List, [], _∷_}
 use Prim.Native.Nat.{ℕ}
 use lib.Dec.{eqb}
 use Rattle.attempt.specs.Attempt.{attemptOf}
-use Rattle.attempt_laws.proofs.Choice.{pick-all}
+use Rattle.choose.proofs.Choice.{pick-all}
 use Rattle.attempt_laws.proofs.Range.{attempt-in-range}
 use Rattle.engine.specs.Run.{World, steppedOf, stoppedOf, runFrom}
 use Rattle.rows.specs.Range.{rowsInRange}

@@ -2,11 +2,14 @@
 use Prim.Native.Nat.{ℕ, _+_, _*_, _/_, _<_, _≤_}
 use mathlib.Core.Path.{_≡_}
 use mathlib.Core.List.{List, [], _∷_}
+use lib.Dec.{eqb}
 use lib.ListN.{length, getD}
-use Rattle.attempt.specs.Attempt.{wordAt}
-use Rattle.engine.specs.Run.{World}
+use Rattle.numbers.specs.Numbers.{wordAt}
+use Rattle.engine.specs.Run.{World, runFrom}
 use Rattle.state.specs.Range.{SampleInRange}
 use Rattle.state.specs.declared.Sample.{Sample}
+use Rattle.choose.specs.Ranged.{pick}
+use Rattle.rows.specs.declared.Row.{Row}
 
 -- each sample is in range
 abbrev pub SamplesInRange : List Sample → Type 0
@@ -32,3 +35,7 @@ pub record Placed (w v : World) : Type 0 where
   pub onward : w .attempts ≤ v .attempts
   pub before : (i d : ℕ) → i < w .attempts * 4 → getD (v .buffer) i d ≡ getD (w .buffer) i d
   pub past : (i d : ℕ) → v .attempts * 4 ≤ i → getD (v .buffer) i d ≡ getD (w .buffer) i d
+
+-- the samples ts after a run that left v: none of them where it was refused
+abbrev pub further : List ℕ → List Row → List Sample → World → World
+further ws rs ts v = pick (eqb (v .answer) 0) (runFrom ws rs ts v) v

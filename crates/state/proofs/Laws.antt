@@ -1,29 +1,24 @@
 -- Laws of the register file: a write changes that register and no other.
 -- Assumes nothing.
-use Prim.Native.Nat.{ℕ, _+_, _*_, _%_, _<_, _≤_}
-use mathlib.Core.Path.{_≡_, refl, ap}
+use Prim.Native.Nat.{ℕ, _+_, _*_, _%_, _<_, suc, _≤_}
+use mathlib.Core.Path.{_≡_, refl}
 use mathlib.Core.Bool.{Bool, true, false}
 use mathlib.Core.List.{List}
+use native.Mathlib.Nat.{mod-eq-of-lt}
 use native.Mathlib.Omega.{arith}
 use lib.Dec.{ltb, leb}
-use lib.ListN.{length, getD, set, length-set}
+use lib.ListN.{length, getD, length-set}
 use lib.Seq.{getD-set-same, getD-set-other}
-use borrow.Author.Tests.{ltb-true, ltb-false, leb-true, leb-false}
-use mir.Val.{boolByte}
-use Rattle.alu.specs.Cycle.{choice}
-use Rattle.state.specs.File.{slotOf, registerOf, writtenOf}
-
--- a Bool as a byte is 0 or 1
-pub byte-le : (t : Bool) → boolByte t ≤ 1
-byte-le true = omega arith
-byte-le false = omega arith
+use borrow.Author.Tests.{leb-false, le-leb}
+use Rattle.choose.specs.Ranged.{pick}
+use Rattle.state.specs.File.{slotOf, registerOf, writtenOf, highOf}
 
 pub slot-below : (g d : ℕ) → slotOf g d < 26
 unfolding slotOf
 slot-below g d = go (leb 2 (d % 16)) refl (ltb (g % 8 * 2 + d % 16) 12) refl
   where
     go : (t : Bool) → leb 2 (d % 16) ≡ t → (u : Bool) → ltb (g % 8 * 2 + d % 16) 12 ≡ u
-        → choice t (10 + d % 16) (choice u (g % 8 * 2 + d % 16) (10 + (g % 8 * 2 + d % 16))) < 26
+        → pick t (10 + d % 16) (pick u (g % 8 * 2 + d % 16) (10 + (g % 8 * 2 + d % 16))) < 26
     go true e u h = omega arith
     go false e true h = omega (arith, leb-false 2 (d % 16) e)
     go false e false h = omega (arith, leb-false 2 (d % 16) e)
@@ -39,3 +34,14 @@ written-same xs g d v e = getD-set-same xs (slotOf g d) v 0 (omega (arith, slot-
 pub written-other : (xs : List ℕ) (g d v i : ℕ) → (i ≡ slotOf g d → ⊥) → getD (writtenOf xs g d v) i 0 ≡ getD xs i 0
 unfolding writtenOf
 written-other xs g d v i n = getD-set-other xs (slotOf g d) i v 0 n
+
+-- designators 2 to F name R2-RF, whatever G
+pub slot-is : (g d : ℕ) → 2 ≤ d → d ≤ 0xF → slotOf g d ≡ 10 + d
+unfolding slotOf
+slot-is g d lo hi =
+    let same : d % 16 ≡ d = mod-eq-of-lt (omega arith) in
+    rw (same, le-leb 2 d lo)
+
+pub high-is : (a : ℕ) → suc a ≤ 0xF → highOf a ≡ suc a
+unfolding highOf
+high-is a h = omega arith

@@ -1,18 +1,17 @@
 -- The register file of 26, and the registers that designators name. 01, "Registers".
 use Prim.Native.Nat.{ℕ, _+_, _*_, _%_}
-use mathlib.Core.Bool.{Bool, true, false}
 use mathlib.Core.List.{List}
 use lib.Dec.{ltb, leb}
 use lib.ListN.{getD, set}
-use Rattle.alu.specs.Cycle.{choice}
+use Rattle.choose.specs.Ranged.{pick}
 
 -- G0-GB stand at 0-11; "GC-GF are RC-RF", at 22-25
 abbrev pub gSlot : ℕ → ℕ
-gSlot j = choice (ltb j 12) j (10 + j)
+gSlot j = pick (ltb j 12) j (10 + j)
 
 -- "Designators 2-F are R2-RF", at 12-25; "0 and 1 name G register 2G or 2G+1"
 unfoldable pub slotOf : ℕ → ℕ → ℕ
-slotOf g d = choice (leb 2 (d % 16)) (10 + d % 16) (gSlot (g % 8 * 2 + d % 16))
+slotOf g d = pick (leb 2 (d % 16)) (10 + d % 16) (gSlot (g % 8 * 2 + d % 16))
 
 -- "A pair is Ra (low) and Ra+1"
 unfoldable pub highOf : ℕ → ℕ

@@ -2,7 +2,7 @@
 use Prim.Native.Nat.{ℕ, _+_, _*_, _/_, _%_}
 use mathlib.Core.Bool.{Bool}
 use lib.Dec.{eqb}
-use Rattle.alu.specs.Cycle.{bit}
+use Rattle.choose.specs.Ranged.{bit}
 use Rattle.alu.specs.declared.Flags.{Flags}
 
 unfoldable pub nibbleOf : Bool → Bool → Bool → Bool → ℕ

@@ -3,14 +3,15 @@ use Prim.Native.Nat.{ℕ, _<_}
 use mathlib.Core.Path.{_≡_}
 use mathlib.Core.Bool.{false}
 use mathlib.Core.List.{List}
-use lib.ListN.{length, getD}
+use lib.ListN.{length}
+use Rattle.numbers.specs.Numbers.{Bytes}
 use Rattle.state.specs.declared.Core.{Core}
 use Rattle.state.specs.declared.Sample.{Sample}
 
 -- "26 registers, G (0-7), LC, RR (0-2047), TR, M (16 bits), TSR (0-7), .. I4-I6, and a waiting modification (a mark and 16 bits, zero when unmarked)"
 pub record InRange (xs : List ℕ) (k : Core) : Type 0 where
   pub size : length xs ≡ 26
-  pub bytes : (i : ℕ) → getD xs i 0 < 256
+  pub bytes : Bytes xs
   pub g : k .latches .g < 8
   pub lc : k .address .lc < 2048
   pub rr : k .address .rr < 2048

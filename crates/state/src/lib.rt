@@ -1,5 +1,6 @@
-// The state: the register file, lent, and all the rest by value, in four rooms that an attempt writes one by one.
+// The state: the register file, lent, and all the rest by value, in four parts that an attempt writes one by one.
 use alu::Flags;
+use choose::bit_of;
 ghost use mathlib.Core.Path.{_≡_};
 ghost use Prim.Native.Nat.{_<_, _≤_};
 ghost use Rattle.state.specs.File.{slotOf, highOf, registerOf, writtenOf};
@@ -86,7 +87,7 @@ pub fn write(file: &mut [u8; 26], g: u8, d: u8, value: u8)
 pub fn nibble(a: bool, b: bool, c: bool, d: bool) -> u8
     ensures { λ r. ⌜ (r ≡ nibbleOf a b c d) × (r ≤ 15) ⌝ }
 {
-    a as u8 * 8 + b as u8 * 4 + c as u8 * 2 + d as u8
+    bit_of(a) * 8 + bit_of(b) * 4 + bit_of(c) * 2 + bit_of(d)
 }
 
 pub fn flag_byte(f: Flags) -> u8

@@ -1,6 +1,6 @@
 -- The state's 41 bytes against the file and the core: there and back, and in range there and back. Assumes nothing.
 use mathlib.Core.Path.{_≡_, refl}
-use mathlib.Core.Bool.{Bool, true, false, _&&_, _||_, false≢true, and-eq-true-iff}
+use mathlib.Core.Bool.{Bool, true, false, _||_, and-eq-true-iff}
 use mathlib.Core.List.{List, [], _∷_, append-assoc}
 use Prim.Native.Nat.{ℕ, zero, suc, _+_, _%_, _<_, _≤_}
 use native.Mathlib.Nat.{mod-add-div}
@@ -9,16 +9,16 @@ use borrow.Author.Tests.{leb-true, le-leb, eqb-true, eq-eqb}
 use lib.Dec.{eqb, leb}
 use lib.ListN.{length, drop, length-append, take-append-drop, drop-of-length-le}
 use lib.Seq.{drop-cons, take-append-le, take-at, getD-append-add, length-take-le}
-use Rattle.alu.specs.Numbers.{Bytes}
-use Rattle.numbers.specs.Numbers.{byteAt, AllBytes}
-use Rattle.numbers.proofs.Laws.{pair-low, pair-high, pair-below, take-bytes, append-bytes}
-use Rattle.state.specs.FlagByte.{nibbleOf, flagByteOf}
-use Rattle.alu.specs.declared.Flags.{Flags}
+use Rattle.choose.proofs.Tests.{three, is-bit}
+use Rattle.numbers.specs.Numbers.{byteAt, Bytes}
+use Rattle.numbers.proofs.Laws.{pair-low, pair-high, pair-below, take-bytes, append-bytes, byte-below}
+use Rattle.state.specs.FlagByte.{nibbleOf}
+use Rattle.state.specs.Range.{InRange}
 use Rattle.state.specs.declared.Core.{Core}
 use Rattle.state_bytes.specs.Bytes.{addressOf, busOf, latchesOf, coreOf, padded, fileOf, tailOf, bytesOf, storedOf}
-use Rattle.state_bytes.specs.Range.{addressInRange, latchesInRange, coreInRange, stateInRange, InRange}
-use Rattle.state_bytes.proofs.Digits.{nibble-le, digits, bits, is-bit, flag-byte-back, flags-back}
-use Rattle.state_bytes.proofs.Steps.{padded-at, padded-length, tail-length}
+use Rattle.state_bytes.specs.Range.{addressInRange, latchesInRange, coreInRange, stateInRange}
+use Rattle.state.proofs.Digits.{nibble-le, digits, bits, flag-byte-below, flag-byte-back, flags-back}
+use Rattle.state_bytes.proofs.Steps.{padded-length, tail-length}
 
 -- ---- lengths
 pub file-length : (s : List ℕ) → length (fileOf s) ≡ 26
@@ -42,12 +42,6 @@ run-is : (s : List ℕ) (n a : ℕ) → length s ≡ a + n → drop a s ≡ run 
 run-is s zero a e = drop-of-length-le s {i = a} (omega arith)
 run-is s (suc n) a e = rw (drop-cons s a 0 (omega arith), run-is s n (suc a) (omega arith))
 
--- three tests that hold together
-pub three : (a b c : Bool) → a && b && c ≡ true → (a ≡ true) × (b ≡ true) × (c ≡ true)
-three true true c h = (refl, refl, h)
-three true false c h = absurd (false≢true h)
-three false b c h = absurd (false≢true h)
-
 -- what is tested of a state in range
 tested : (s : List ℕ) → stateInRange s ≡ true → (length s ≡ 41) × (byteAt s 37 ≤ 15) × (coreInRange (coreOf s) ≡ true)
 unfolding stateInRange
@@ -55,15 +49,15 @@ tested s h =
     let p = three (eqb (length s) 41) (leb (byteAt s 37) 15) (coreInRange (coreOf s)) h in
     (eqb-true _ _ (p .0), leb-true _ _ (p .1), p .2)
 
-tail-back : (s : List ℕ) → AllBytes s → byteAt s 37 ≤ 15 → tailOf (coreOf s) ≡ run s 26 15
+tail-back : (s : List ℕ) → Bytes s → byteAt s 37 ≤ 15 → tailOf (coreOf s) ≡ run s 26 15
 unfolding tailOf coreOf addressOf busOf latchesOf
 tail-back s b h =
     let marks : byteAt s 37 % 16 ≡ byteAt s 37 = omega arith in
-    rw (flag-byte-back (byteAt s 27) (b 27), digits (byteAt s 37), marks, pair-low s b 28, pair-high s b 28, pair-low s b 30, pair-high s b 30)
+    rw (flag-byte-back (byteAt s 27) (byte-below s b 27), digits (byteAt s 37), marks, pair-low s b 28, pair-high s b 28, pair-low s b 30, pair-high s b 30)
     (rw (pair-low s b 32, pair-high s b 32, pair-low s b 34, pair-high s b 34, pair-low s b 39, pair-high s b 39))
 
 -- the file and the core of a state in range give its bytes again
-pub bytes-back : (s : List ℕ) → AllBytes s → stateInRange s ≡ true → bytesOf (fileOf s) (coreOf s) ≡ s
+pub bytes-back : (s : List ℕ) → Bytes s → stateInRange s ≡ true → bytesOf (fileOf s) (coreOf s) ≡ s
 unfolding fileOf
 bytes-back s b h =
     let t = tested s h in
@@ -89,10 +83,11 @@ unfolding fileOf
 file-back xs k e = rw append-assoc (take-at xs _ 26 e)
 
 -- ---- in range
-core-true : (k : Core) → InRange k → coreInRange k ≡ true
+core-true : (xs : List ℕ) (k : Core) → InRange xs k → coreInRange k ≡ true
 unfolding coreInRange addressInRange latchesInRange
-core-true k r =
-    rw (le-leb _ _ (r .lc), le-leb _ _ (r .rr), le-leb _ _ (r .tsr), le-leb _ _ (r .g), le-leb _ _ (r .interrupts)) (go (k .latches .marked) refl)
+core-true xs k r =
+    rw (le-leb (k .address .lc) 2047 (omega arith), le-leb (k .address .rr) 2047 (omega arith), le-leb (k .address .tsr) 7 (omega arith), le-leb (k .latches .g) 7 (omega arith), le-leb (k .latches .interrupts) 7 (omega arith))
+    (go (k .latches .marked) refl)
   where
     go : (t : Bool) → k .latches .marked ≡ t → (t || eqb (k .latches .modification) 0) ≡ true
     go true e = refl
@@ -102,57 +97,51 @@ marks-le : (xs : List ℕ) (k : Core) → length xs ≡ 26 → byteAt (bytesOf x
 unfolding tailOf
 marks-le xs k e = rw (tail-at xs k e 11) (nibble-le (k .latches .marked) (k .bus .iack) (k .bus .sync) (k .latches .ics))
 
--- the bytes of a core in range are a state in range: a returned state can be handed in again
-pub bytes-in-range : (xs : List ℕ) (k : Core) → length xs ≡ 26 → InRange k → stateInRange (bytesOf xs k) ≡ true
+-- the bytes of a file and a core in range are a state in range: a returned state can be handed in again
+pub bytes-in-range : (xs : List ℕ) (k : Core) → InRange xs k → stateInRange (bytesOf xs k) ≡ true
 unfolding stateInRange
-bytes-in-range xs k e r =
-    rw (eq-eqb _ _ (bytes-length xs k e), le-leb _ _ (marks-le xs k e), core-back xs k e, core-true k r)
+bytes-in-range xs k r =
+    rw (eq-eqb _ _ (bytes-length xs k (r .size)), le-leb _ _ (marks-le xs k (r .size)), core-back xs k (r .size), core-true xs k r)
 
 -- what is tested of a core in range, and that its wide parts have 16 bits
-pub in-range : (k : Core) → coreInRange k ≡ true → k .bus .m < 65536 → k .latches .tr < 65536 → k .latches .modification < 65536 → InRange k
+in-range : (xs : List ℕ) (k : Core) → length xs ≡ 26 → Bytes xs → coreInRange k ≡ true → k .bus .m < 65536 → k .latches .tr < 65536 → k .latches .modification < 65536 → InRange xs k
 unfolding coreInRange addressInRange latchesInRange
-in-range k h m tr modification =
+in-range xs k e b h m tr modification =
     let p = and-eq-true-iff (addressInRange (k .address)) (latchesInRange (k .latches)) .0 h in
     let a = three (leb (k .address .lc) 2047) (leb (k .address .rr) 2047) (leb (k .address .tsr) 7) (p .0) in
     let l = three (leb (k .latches .g) 7) (leb (k .latches .interrupts) 7) (k .latches .marked || eqb (k .latches .modification) 0) (p .1) in
     record {
-      lc = leb-true _ _ (a .0);
-      rr = leb-true _ _ (a .1);
-      tsr = leb-true _ _ (a .2);
-      m = m;
-      g = leb-true _ _ (l .0);
+      size = e;
+      bytes = b;
+      g = omega (arith, leb-true (k .latches .g) 7 (l .0));
+      lc = omega (arith, leb-true (k .address .lc) 2047 (a .0));
+      rr = omega (arith, leb-true (k .address .rr) 2047 (a .1));
       tr = tr;
-      interrupts = leb-true _ _ (l .1);
+      m = m;
+      tsr = omega (arith, leb-true (k .address .tsr) 7 (a .2));
+      interrupts = omega (arith, leb-true (k .latches .interrupts) 7 (l .1));
       modification = modification;
-      unmarked = λ e. eqb-true _ _ (rw e at (l .2));
+      unmarked = λ u. eqb-true _ _ (rw u at (l .2));
     }
 
--- a state in range holds a core in range
-pub core-in-range : (s : List ℕ) → AllBytes s → stateInRange s ≡ true → InRange (coreOf s)
-unfolding coreOf busOf latchesOf
-core-in-range s b h = in-range (coreOf s) (tested s h .2) (pair-below s b 34) (pair-below s b 32) (pair-below s b 39)
-
 -- ---- bytes
-pub file-bytes : (s : List ℕ) → AllBytes s → AllBytes (fileOf s)
+pub file-bytes : (s : List ℕ) → Bytes s → Bytes (fileOf s)
 unfolding fileOf
-file-bytes s b = take-bytes 26 (padded s 26) (λ i. rw (padded-at s 26 i) (b i))
+file-bytes s b = take-bytes 26 (padded s 26) (append-bytes s _ b (omega arith))
 
-all-bytes : (s : List ℕ) → Bytes s → AllBytes s
-all-bytes [] b i = omega arith
-all-bytes (x ∷ s) b zero = b .0
-all-bytes (x ∷ s) b (suc i) = all-bytes s (b .1) i
+-- a state in range holds a file and a core in range
+pub state-in-range : (s : List ℕ) → Bytes s → stateInRange s ≡ true → InRange (fileOf s) (coreOf s)
+unfolding coreOf busOf latchesOf
+state-in-range s b h =
+    in-range (fileOf s) (coreOf s) (file-length s) (file-bytes s b) (tested s h .2) (pair-below s b 34) (pair-below s b 32) (pair-below s b 39)
 
-flag-byte-below : (f : Flags) → flagByteOf f < 256
-unfolding flagByteOf
-flag-byte-below f = omega (arith, nibble-le (f .n) (f .z) (f .v) (f .c), nibble-le (f .nb) (f .zb) (f .c4) (f .c8))
-
-tail-bytes : (k : Core) → InRange k → Bytes (tailOf k)
+tail-bytes : (xs : List ℕ) (k : Core) → InRange xs k → Bytes (tailOf k)
 unfolding tailOf
-tail-bytes k r =
+tail-bytes xs k r =
     let flags = flag-byte-below (k .flags) in
     let marks = nibble-le (k .latches .marked) (k .bus .iack) (k .bus .sync) (k .latches .ics) in
     omega arith
 
--- the bytes of a core in range are bytes
-pub state-bytes : (xs : List ℕ) (k : Core) → AllBytes xs → InRange k → AllBytes (bytesOf xs k)
-state-bytes xs k b r = append-bytes xs (tailOf k) b (all-bytes (tailOf k) (tail-bytes k r))
+-- the bytes of a file and a core in range are bytes
+pub state-bytes : (xs : List ℕ) (k : Core) → InRange xs k → Bytes (bytesOf xs k)
+state-bytes xs k r = append-bytes xs (tailOf k) (r .bytes) (tail-bytes xs k r)

@@ -1,3 +1,2 @@
 mod Steps
-mod Digits
 pub mod Laws

@@ -2,12 +2,12 @@
 -- in bits 0-2, modification." The registers are bytes 0 to 25; then G at 26, flags 27, LC 28, RR 30, TR 32, M 34, TSR 36, marks 37,
 -- I4-I6 38, modification 39. A byte that is missing reads as 0.
 use mathlib.Core.Path.{_≡_}
-use mathlib.Core.Bool.{Bool, true, false}
 use mathlib.Core.List.{List, [], _∷_, _++_}
 use Prim.Native.Nat.{ℕ, _/_, _%_}
 use lib.Dec.{eqb}
 use lib.ListN.{length, take, replicate}
 use lib.Seq.{paste}
+use Rattle.choose.specs.Ranged.{pick}
 use Rattle.numbers.specs.Numbers.{byteAt, pairAt}
 use Rattle.state.specs.FlagByte.{nibbleOf, flagByteOf, flagsOf}
 use Rattle.state.specs.declared.Address.{Address}
@@ -88,10 +88,6 @@ tailOf k =
 abbrev pub bytesOf : List ℕ → Core → List ℕ
 bytesOf file k = file ++ tailOf k
 
-abbrev pub pickBytes : Bool → List ℕ → List ℕ → List ℕ
-pickBytes true a b = a
-pickBytes false a b = b
-
 -- "a state buffer of 41 bytes. The state returned is written there"; one of another length is left as found
 unfoldable pub storedOf : List ℕ → Core → List ℕ → List ℕ
-storedOf file k out = pickBytes (eqb (length out) 41) (bytesOf file k) out
+storedOf file k out = pick (eqb (length out) 41) (bytesOf file k) out

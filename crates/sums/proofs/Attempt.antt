@@ -7,12 +7,12 @@ use native.Mathlib.Omega.{arith}
 use lib.Dec.{eqb, ltb}
 use lib.ListN.{length}
 use borrow.Author.Tests.{lt-ltb, le-ltb}
-use Rattle.alu.specs.Cycle.{bit}
 use Rattle.alu.specs.declared.Flags.{Flags}
-use Rattle.attempt.specs.Attempt.{Ended, ended, outcomeOf, executedOf, triedOf, modifiedOf, fetchedOf, attemptedOf, outputsOf, attemptOf, wordAt}
+use Rattle.attempt.specs.Attempt.{Ended, ended, outcomeOf, executedOf, triedOf, modifiedOf, fetchedOf, attemptedOf, outputsOf, attemptOf}
+use Rattle.numbers.specs.Numbers.{wordAt}
 use Rattle.attempt.specs.Effect.{registerEffect, effectOf}
-use Rattle.checks.specs.Checks.{oddOf, ofTwo, refusalOf}
-use Rattle.choose.specs.Ranged.{pick}
+use Rattle.checks.specs.Checks.{oddDesignatorOf, designatorRefusalOf, wordRefusalOf}
+use Rattle.choose.specs.Ranged.{bit, pick}
 use Rattle.code.specs.Rows.{classOf}
 use Rattle.code.specs.Word.{operandsIn, fieldsIn, apartOf}
 use Rattle.code.specs.declared.Apart.{Apart}
@@ -20,14 +20,14 @@ use Rattle.code.specs.declared.Class.{Class}
 use Rattle.code.specs.declared.Fields.{Fields}
 use Rattle.code.specs.declared.Operands.{Operands}
 use Rattle.control.specs.Latches.{used}
-use Rattle.control.specs.Next.{addressOf, nextOf, onwardOf, rrOf, tsrOf, plusOne}
+use Rattle.control.specs.Next.{addressAfter, nextOf, onwardOf, rrOf, tsrOf, plusOne}
 use Rattle.cycles.specs.Cycles.{Made}
 use Rattle.rows.proofs.Laws.{scan-none}
 use Rattle.rows.specs.Scan.{none}
 use Rattle.state.specs.declared.Core.{Core}
 use Rattle.state.specs.declared.Latches.{Latches}
 use Rattle.state.specs.declared.Sample.{Sample}
-use Rattle.sums.specs.Sums.{Step, Sign, codeOf, instructionOf, isPair, sourceOf, targetOf}
+use Rattle.sums.specs.Sums.{Step, Sign, stepCode, instructionOf, isPair, sourceOf, targetOf}
 use Rattle.sums.specs.Sums.Step.{byte, pair}
 use Rattle.sums.proofs.Codes.{cycles, pairs, options, goes-on, bus-kept, latches-kept, no-request, no-rtsr, working, class, no-cad, word-bit, stepCarry}
 use Rattle.sums.proofs.Cycles.{Fits, stepMade, step-is}
@@ -60,14 +60,14 @@ apart-is w c b a k h hb ha e =
 
 -- ---- neither refused nor held
 
-refusal-none : (sign : Sign) (later : Bool) (t : Step) → Fits t → refusalOf (codeOf sign later (isPair t)) (Operands.Two (sourceOf t) (targetOf t)) ≡ 0
-unfolding refusalOf ofTwo oddOf
+refusal-none : (sign : Sign) (later : Bool) (t : Step) → Fits t → wordRefusalOf (stepCode sign later (isPair t)) (Operands.Two (sourceOf t) (targetOf t)) ≡ 0
+unfolding wordRefusalOf designatorRefusalOf oddDesignatorOf
 refusal-none sign later (byte a b) h =
-    let c = codeOf sign later false in
+    let c = stepCode sign later false in
     let r = working sign later false in
     rw (no-cad sign later false, pairs c r, word-bit sign later false, options c r, le-ltb 15 b (h .1))
 refusal-none sign later (pair a b) h =
-    let c = codeOf sign later true in
+    let c = stepCode sign later true in
     let r = working sign later true in
     rw (no-cad sign later true, pairs c r, word-bit sign later true, options c r, h .2, h .3, le-ltb 15 b (omega arith))
 
@@ -87,11 +87,11 @@ abbrev pub endedAt : Core → Made → Bool → Bool → Ended
 endedAt k m loads wide = ended (m .file) (outcomeOf (coreAfter k (m .flags) loads) 0 (1 + bit wide) 0)
 
 executed-is : (sign : Sign) (later : Bool) (t : Step) (xs : List ℕ) (k : Core) (s : Sample) (w : ℕ) → Fits t
-    → executedOf xs k (fieldsAt w (codeOf sign later (isPair t)) (sourceOf t) (targetOf t)) s none
+    → executedOf xs k (fieldsAt w (stepCode sign later (isPair t)) (sourceOf t) (targetOf t)) s none
     ≡ endedAt k (stepMade sign xs (k .latches .g) (stepCarry sign later (k .flags)) t) (eqb (w / 0x1_0000 % 2) 1) (isPair t)
-unfolding executedOf effectOf registerEffect addressOf nextOf onwardOf rrOf tsrOf
+unfolding executedOf effectOf registerEffect addressAfter nextOf onwardOf rrOf tsrOf
 executed-is sign later t xs k s w h =
-    let c = codeOf sign later (isPair t) in
+    let c = stepCode sign later (isPair t) in
     let r = working sign later (isPair t) in
     rw (
       step-is sign later t xs k (s .dal) h,
@@ -104,11 +104,11 @@ executed-is sign later t xs k s w h =
     )
 
 tried-is : (sign : Sign) (later : Bool) (t : Step) (xs : List ℕ) (k : Core) (s : Sample) (w : ℕ) → Fits t
-    → triedOf xs k (fieldsAt w (codeOf sign later (isPair t)) (sourceOf t) (targetOf t)) s none
+    → triedOf xs k (fieldsAt w (stepCode sign later (isPair t)) (sourceOf t) (targetOf t)) s none
     ≡ endedAt k (stepMade sign xs (k .latches .g) (stepCarry sign later (k .flags)) t) (eqb (w / 0x1_0000 % 2) 1) (isPair t)
 unfolding triedOf
 tried-is sign later t xs k s w h =
-    rw (refusal-none sign later t h, goes-on (codeOf sign later (isPair t)) (working sign later (isPair t)) s) (executed-is sign later t xs k s w h)
+    rw (refusal-none sign later t h, goes-on (stepCode sign later (isPair t)) (working sign later (isPair t)) s) (executed-is sign later t xs k s w h)
 
 -- ---- fetched
 
@@ -150,6 +150,6 @@ attempt-is sign later t ws xs k s h l u e m c r =
       picked (s .reset) (s .compute) _ _ _ r c,
       lt-ltb (k .address .lc) (length ws / 4) l,
       unmodified w (k .latches) m,
-      apart-is w (codeOf sign later (isPair t)) (sourceOf t) (targetOf t) (class sign later (isPair t)) u (fits-b t h) (fits-a t h) e,
+      apart-is w (stepCode sign later (isPair t)) (sourceOf t) (targetOf t) (class sign later (isPair t)) u (fits-b t h) (fits-a t h) e,
     )
     (tried-is sign later t xs k s w h)

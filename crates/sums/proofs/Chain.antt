@@ -1,27 +1,29 @@
 -- The byte cycles of a cut, one after the other on the register file: the target's registers and the last cycle's flags are those of a sum over two lists of
 -- bytes, where no cycle writes what a later one reads. Assumes nothing.
-use Prim.Native.Nat.{ℕ, zero, suc, _+_, _%_, _<_, _≤_}
+use Prim.Native.Nat.{ℕ, suc, _+_, _≤_}
 use mathlib.Core.Path.{_≡_, refl, ap, ap₂, sym, _∙_}
-use mathlib.Core.Bool.{Bool, true, false, not, _&&_}
+use mathlib.Core.Bool.{Bool, true, false, _&&_, Bool·not-not}
 use mathlib.Core.List.{List, [], _∷_, _++_}
 use native.Mathlib.Omega.{arith}
-use native.Mathlib.Nat.{add-zero, mod-eq-of-lt}
+use native.Mathlib.Nat.{add-zero}
 use lib.Dec.{eqb}
-use lib.ListN.{length, getD, set}
-use borrow.Author.Tests.{le-leb, eq-eqb, ne-eqb, eqb-true, eqb-false}
+use lib.ListN.{length, getD}
+use borrow.Author.Tests.{eq-eqb, ne-eqb, eqb-true, eqb-false}
 use Rattle.alu.proofs.Laws.{result-byte}
-use Rattle.alu.specs.Numbers.{value, Bytes, sumBytes, ones}
+use Rattle.alu.specs.Numbers.{value, sumBytes, ones}
 use Rattle.alu.specs.declared.Cycle.{Cycle}
 use Rattle.alu.specs.declared.Flags.{Flags}
 use Rattle.cycles.specs.Cycles.{Made, made}
 use Rattle.engine.specs.Run.{World}
-use Rattle.state.proofs.Laws.{written-length, written-same, written-other}
+use Rattle.numbers.specs.Numbers.{Bytes}
+use Rattle.numbers.proofs.Laws.{set-bytes}
+use Rattle.state.proofs.Laws.{written-length, written-same, written-other, slot-is}
 use Rattle.state.specs.File.{slotOf, registerOf, writtenOf}
 use Rattle.sums.specs.Sums.{Step, Cut, Sign, targets, sources, Absent, Different, registersAt, lastTargets, Elsewhere}
 use Rattle.sums.specs.Sums.Sign.{plus, minus}
 use Rattle.sums.specs.Sums.Step.{byte, pair}
 use Rattle.sums.proofs.Codes.{stepCarry}
-use Rattle.sums.proofs.Cycles.{addend, cycleWith, cycleAt, fileAt, marks, stepMade}
+use Rattle.sums.proofs.Cycles.{addend, cycleWith, cycleAt, fileAt, oddCodeFlags, stepMade}
 use Rattle.sums.proofs.Run.{stepOn, after}
 
 -- ---- the registers and the flags of a run, without the rest
@@ -30,17 +32,13 @@ abbrev pub cutMade : Sign → List ℕ → ℕ → Bool → Cut → Flags → Ma
 cutMade sign xs g c [] f = made xs f
 cutMade sign xs g c (t ∷ ts) f = let m = stepMade sign xs g c t in cutMade sign (m .file) g (m .flags .c8) ts (m .flags)
 
-pub not-not : (t : Bool) → not (not t) ≡ t
-not-not true = refl
-not-not false = refl
-
 -- C8 is the next step's carry in: C, or what C is the complement of
 next-carry : (sign : Sign) (xs : List ℕ) (g : ℕ) (c : Bool) (t : Step)
     → stepCarry sign true (stepMade sign xs g c t .flags) ≡ stepMade sign xs g c t .flags .c8
 next-carry plus xs g c (byte a b) = refl
 next-carry plus xs g c (pair a b) = refl
-next-carry minus xs g c (byte a b) = not-not _
-next-carry minus xs g c (pair a b) = not-not _
+next-carry minus xs g c (byte a b) = Bool·not-not _
+next-carry minus xs g c (pair a b) = Bool·not-not _
 
 pub made-is : (sign : Sign) (later : Bool) (cut : Cut) (ws : List ℕ) (w : World)
     → made (after sign later cut ws w .file) (after sign later cut ws w .core .flags)
@@ -73,8 +71,8 @@ file-is sign xs g c (byte a b ∷ ts) f = let m = stepMade sign xs g c (byte a b
 file-is sign xs g c (pair a b ∷ ts) f = let m = stepMade sign xs g c (pair a b) in file-is sign (m .file) g (m .flags .c8) ts (m .flags)
 
 -- the flags are the last cycle's, and what the last step makes Z
-pub flags-are : (sign : Sign) (xs : List ℕ) (g : ℕ) (c : Bool) (cut : Cut) (f : Flags) (y : Cycle) → f ≡ marks y (f .z)
-    → cutMade sign xs g c cut f .flags ≡ marks (chainLast sign y xs g c (targets cut) (sources cut)) (cutMade sign xs g c cut f .flags .z)
+pub flags-are : (sign : Sign) (xs : List ℕ) (g : ℕ) (c : Bool) (cut : Cut) (f : Flags) (y : Cycle) → f ≡ oddCodeFlags y (f .z)
+    → cutMade sign xs g c cut f .flags ≡ oddCodeFlags (chainLast sign y xs g c (targets cut) (sources cut)) (cutMade sign xs g c cut f .flags .z)
 flags-are sign xs g c [] f y e = e
 flags-are sign xs g c (byte a b ∷ ts) f y e =
     let m = stepMade sign xs g c (byte a b) in
@@ -93,11 +91,6 @@ chain-length sign xs g c (a ∷ ds) (b ∷ bs) =
     let y = cycleAt sign xs g c a b in
     chain-length sign (fileAt sign xs g c a b) g (y .c8) ds bs ∙ written-length xs g a (y .result)
 
-bytes-set : (xs : List ℕ) (i v : ℕ) → Bytes xs → v < 256 → Bytes (set xs i v)
-bytes-set [] i v b h = tt
-bytes-set (x ∷ xs) zero v b h = (h, b .1)
-bytes-set (x ∷ xs) (suc i) v b h = (b .0, bytes-set xs i v (b .1) h)
-
 pub chain-bytes : (sign : Sign) (xs : List ℕ) (g : ℕ) (c : Bool) (ds bs : List ℕ) → Bytes xs → Bytes (chainFile sign xs g c ds bs)
 unfolding writtenOf
 chain-bytes sign xs g c [] bs h = h
@@ -105,7 +98,7 @@ chain-bytes sign xs g c (a ∷ ds) [] h = h
 chain-bytes sign xs g c (a ∷ ds) (b ∷ bs) h =
     let y = cycleAt sign xs g c a b in
     chain-bytes sign (fileAt sign xs g c a b) g (y .c8) ds bs
-    (bytes-set xs (slotOf g a) (y .result) h (result-byte (registerOf xs g a) (addend sign (registerOf xs g b)) c))
+    (set-bytes xs (slotOf g a) (y .result) h (result-byte (registerOf xs g a) (addend sign (registerOf xs g b)) c))
 
 pub chain-other : (sign : Sign) (xs : List ℕ) (g : ℕ) (c : Bool) (ds bs : List ℕ) (i : ℕ) → Elsewhere g i ds
     → getD (chainFile sign xs g c ds bs) i 0 ≡ getD xs i 0
@@ -146,12 +139,6 @@ chain-source sign xs g c (a ∷ ds) [] es h = refl
 chain-source sign xs g c (a ∷ ds) (b ∷ bs) es h =
     let y = cycleAt sign xs g c a b in
     chain-source sign (fileAt sign xs g c a b) g (y .c8) ds bs es (h .2) ∙ registers-kept xs g a (y .result) es (h .1)
-
-slot-is : (g d : ℕ) → 2 ≤ d → d ≤ 0xF → slotOf g d ≡ 10 + d
-unfolding slotOf
-slot-is g d lo hi =
-    let same : d % 16 ≡ d = mod-eq-of-lt (omega arith) in
-    rw (same, le-leb 2 d lo)
 
 elsewhere : (g a : ℕ) (ds : List ℕ) → 2 ≤ a → a ≤ 0xF → Absent a ds → Different ds → Elsewhere g (slotOf g a) ds
 elsewhere g a [] lo hi n h = tt

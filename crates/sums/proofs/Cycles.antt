@@ -3,7 +3,6 @@ use Prim.Native.Nat.{ℕ, suc, _-_, _%_, _≤_}
 use mathlib.Core.Path.{_≡_, refl, _∙_}
 use mathlib.Core.Bool.{Bool, true, false, _&&_}
 use mathlib.Core.List.{List}
-use native.Mathlib.Omega.{arith}
 use lib.Dec.{eqb, leb}
 use Rattle.alu.specs.Cycle.{addOf, subtractOf, cycleOf}
 use Rattle.alu.specs.Marks.{afterOf, afterByteOf, afterWordOf}
@@ -11,9 +10,10 @@ use Rattle.alu.specs.declared.Cycle.{Cycle}
 use Rattle.alu.specs.declared.Flags.{Flags}
 use Rattle.cycles.specs.Cycles.{Made, made, operandOf, stepOf, oneCycleOf, twoCyclesOf}
 use Rattle.execute.specs.Execute.{names, registersOf}
-use Rattle.state.specs.File.{highOf, registerOf, writtenOf}
+use Rattle.state.proofs.Laws.{high-is}
+use Rattle.state.specs.File.{registerOf, writtenOf}
 use Rattle.state.specs.declared.Core.{Core}
-use Rattle.sums.specs.Sums.{Step, Sign, codeOf, c8Of, isPair, sourceOf, targetOf}
+use Rattle.sums.specs.Sums.{Step, Sign, stepCode, c8Of, isPair, sourceOf, targetOf}
 use Rattle.sums.specs.Sums.Sign.{plus, minus}
 use Rattle.sums.specs.Sums.Step.{byte, pair}
 use Rattle.sums.proofs.Codes.{stepCarry, kindOf, planFor, cycles-are}
@@ -34,8 +34,8 @@ cycle-is plus p q c f = refl
 cycle-is minus p q c f = refl
 
 -- the flags of an odd code
-abbrev pub marks : Cycle → Bool → Flags
-marks y zero =
+abbrev pub oddCodeFlags : Cycle → Bool → Flags
+oddCodeFlags y zero =
     let negative = leb 128 (y .result) in
     record { n = negative; z = zero; v = y .v; c = y .c; nb = negative; zb = zero; c4 = y .c4; c8 = y .c8 }
 
@@ -47,16 +47,12 @@ abbrev pub fileAt : Sign → List ℕ → ℕ → Bool → ℕ → ℕ → List 
 fileAt sign xs g c a b = writtenOf xs g a (cycleAt sign xs g c a b .result)
 
 abbrev pub stepMade : Sign → List ℕ → ℕ → Bool → Step → Made
-stepMade sign xs g c (byte a b) = let y = cycleAt sign xs g c a b in made (fileAt sign xs g c a b) (marks y (eqb (y .result) 0))
+stepMade sign xs g c (byte a b) = let y = cycleAt sign xs g c a b in made (fileAt sign xs g c a b) (oddCodeFlags y (eqb (y .result) 0))
 stepMade sign xs g c (pair a b) =
     let y = cycleAt sign xs g c a b in
     let ys = fileAt sign xs g c a b in
     let z = cycleAt sign ys g (y .c8) (suc a) (suc b) in
-    made (fileAt sign ys g (y .c8) (suc a) (suc b)) (marks z (eqb (y .result) 0 && eqb (z .result) 0))
-
-high-is : (a : ℕ) → suc a ≤ 0xF → highOf a ≡ suc a
-unfolding highOf
-high-is a h = omega arith
+    made (fileAt sign ys g (y .c8) (suc a) (suc b)) (oddCodeFlags z (eqb (y .result) 0 && eqb (z .result) 0))
 
 one-is : (sign : Sign) (xs : List ℕ) (g : ℕ) (f : Flags) (c : Bool) (a b : ℕ)
     → oneCycleOf xs g f (planFor sign c) (names a b) true ≡ stepMade sign xs g c (byte a b)
@@ -76,7 +72,7 @@ Fits (byte a b) = (a ≤ 0xF) × (b ≤ 0xF)
 Fits (pair a b) = (suc a ≤ 0xF) × (suc b ≤ 0xF) × (a % 2 ≡ 0) × (b % 2 ≡ 0)
 
 pub step-is : (sign : Sign) (later : Bool) (t : Step) (xs : List ℕ) (k : Core) (dal : ℕ) → Fits t
-    → registersOf xs k dal (codeOf sign later (isPair t)) (sourceOf t) (targetOf t) ≡ stepMade sign xs (k .latches .g) (stepCarry sign later (k .flags)) t
+    → registersOf xs k dal (stepCode sign later (isPair t)) (sourceOf t) (targetOf t) ≡ stepMade sign xs (k .latches .g) (stepCarry sign later (k .flags)) t
 step-is sign later (byte a b) xs k dal h =
     cycles-are sign later false xs k dal b a ∙ one-is sign xs (k .latches .g) (k .flags) (stepCarry sign later (k .flags)) a b
 step-is sign later (pair a b) xs k dal h =

@@ -1,5 +1,5 @@
 -- What the hypotheses of demand 3 say of each step and of the bytes in its registers. Assumes nothing.
-use Prim.Native.Nat.{ℕ, zero, suc, _/_, _<_, _≤_}
+use Prim.Native.Nat.{ℕ, suc, _/_, _<_, _≤_}
 use mathlib.Core.Path.{_≡_, refl, ap}
 use mathlib.Core.Bool.{Bool, true, false}
 use mathlib.Core.List.{List, [], _∷_, _++_}
@@ -7,9 +7,10 @@ use native.Mathlib.Omega.{arith}
 use lib.Dec.{eqb}
 use lib.ListN.{length, getD, drop}
 use borrow.Author.Tests.{eqb-true, eqb-false}
-use Rattle.alu.specs.Numbers.{Bytes}
+use Rattle.numbers.specs.Numbers.{Bytes}
+use Rattle.numbers.proofs.Laws.{byte-below}
 use Rattle.state.specs.File.{slotOf, registerOf}
-use Rattle.sums.specs.Sums.{Cut, Sign, targets, sources, bytesOf, Different, Even, InPlace, instructionsOf, registersAt, Elsewhere}
+use Rattle.sums.specs.Sums.{Cut, Sign, targets, sources, byteCount, Different, Even, InPlace, instructionsOf, registersAt, Elsewhere}
 use Rattle.sums.specs.Sums.Step.{byte, pair}
 use Rattle.sums.proofs.Run.{AllFit}
 
@@ -37,7 +38,7 @@ same-length [] = refl
 same-length (byte a b ∷ ts) = ap suc (same-length ts)
 same-length (pair a b ∷ ts) = ap suc (ap suc (same-length ts))
 
-pub some-bytes : (cut : Cut) → 1 ≤ length cut → 1 ≤ bytesOf cut
+pub some-bytes : (cut : Cut) → 1 ≤ length cut → 1 ≤ byteCount cut
 some-bytes [] h = h
 some-bytes (byte a b ∷ ts) h = omega arith
 some-bytes (pair a b ∷ ts) h = omega arith
@@ -46,15 +47,10 @@ pub registers-length : (xs : List ℕ) (g : ℕ) (ds : List ℕ) → length (reg
 registers-length xs g [] = refl
 registers-length xs g (d ∷ ds) = ap suc (registers-length xs g ds)
 
-byte-at : (xs : List ℕ) (i : ℕ) → Bytes xs → getD xs i 0 < 256
-byte-at [] i b = omega arith
-byte-at (x ∷ xs) zero b = b .0
-byte-at (x ∷ xs) (suc i) b = byte-at xs i (b .1)
-
 pub registers-bytes : (xs : List ℕ) (g : ℕ) (ds : List ℕ) → Bytes xs → Bytes (registersAt xs g ds)
 unfolding registerOf
 registers-bytes xs g [] b = tt
-registers-bytes xs g (d ∷ ds) b = (byte-at xs (slotOf g d) b, registers-bytes xs g ds b)
+registers-bytes xs g (d ∷ ds) b = (byte-below xs b (slotOf g d), registers-bytes xs g ds b)
 
 pub lc-below : (sign : Sign) (cut : Cut) (ws : List ℕ) (at : ℕ) → 1 ≤ length cut → length ws / 4 ≤ 2048
     → InPlace ws at (instructionsOf sign false cut) → at < 2048

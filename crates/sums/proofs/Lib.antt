@@ -8,4 +8,6 @@ pub mod Numbers
 pub mod Given
 pub mod Summed
 pub mod Theorem
+pub mod Host
+pub mod Deck
 pub mod Example

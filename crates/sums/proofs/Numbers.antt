@@ -8,10 +8,12 @@ use native.Mathlib.Nat.{add-zero, pow-succ', one-le-pow, mul-le-mul-left, le-pre
 use lib.Dec.{leb, ltb}
 use lib.ListN.{length}
 use borrow.Author.Tests.{ltb-true, ltb-false, leb-true, leb-false, le-leb, lt-leb}
-use Rattle.alu.proofs.Laws.{result-byte, byte-sum, sum-bytes, sum-length, value-below, sum-law, ones-bytes, ones-length, difference-law, carry-law, borrow-law, v-law, v-difference-law}
-use Rattle.alu.specs.Cycle.{addOf, bit, sumOutside}
-use Rattle.alu.specs.Numbers.{value, Bytes, sumBytes, carryOut, lastV, ones, half, differenceOutside}
+use Rattle.alu.proofs.Laws.{result-byte, byte-sum, sum-bytes, sum-length, value-below, sum-law, ones-bytes, ones-length, difference-law, carry-law, borrow-law, v-law, v-difference-law, ones-value, digit-from, step-up}
+use Rattle.choose.specs.Ranged.{bit}
+use Rattle.alu.specs.Cycle.{addOf, sumOutside}
+use Rattle.alu.specs.Numbers.{value, sumBytes, carryOut, lastV, ones, half, differenceOutside}
 use Rattle.alu.specs.declared.Cycle.{Cycle}
+use Rattle.numbers.specs.Numbers.{Bytes}
 use Rattle.sums.specs.Sums.{Sign, resultOf, cOf, vOf, c8Of, c4Of}
 use Rattle.sums.specs.Sums.Sign.{plus, minus}
 use Rattle.sums.proofs.Cycles.{cycleWith}
@@ -80,26 +82,14 @@ last-v-law minus (p ∷ ps) (q ∷ qs) v bp bq e h =
     v-difference-law p q ps qs false v bp bq (omega arith)
     ∙ ap (λ (n : ℕ). differenceOutside (half n) (value (p ∷ ps)) (value (q ∷ qs)) false) (sym (less-one (length ps)))
 
--- ---- tests at multiples of 256
+-- ---- digits
 
--- a low digit moves no test
-digit-from : (r t k : ℕ) → r < 256 → leb k t ≡ leb (256 * k) (r + 256 * t)
-digit-from r t k h = go (leb k t) refl
-  where
-    go : (b : Bool) → leb k t ≡ b → b ≡ leb (256 * k) (r + 256 * t)
-    go true e = sym (le-leb (256 * k) (r + 256 * t) (omega (arith, leb-true k t e)))
-    go false e = sym (lt-leb (256 * k) (r + 256 * t) (omega (arith, leb-false k t e)))
-
--- and stays when multiples go
+-- a low digit stays when multiples go
 digit-mod : (p x m : ℕ) → p < 256 → 0 < m → (p + 256 * x) % (256 * m) ≡ p + 256 * (x % m)
 digit-mod p x m h k =
     let low = mod-lt x k in
     let whole = mod-add-div x m in
     remainder (p + 256 * (x % m)) (256 * m) (p + 256 * x) (x / m) (omega arith) (omega arith)
-
--- 128 or 16 of the next byte up
-step-up : (w n : ℕ) → w * 256 ^ suc n ≡ 256 * (w * 256 ^ n)
-step-up w n = rw (pow-succ' 256 n) (omega arith)
 
 -- ---- the sign
 
@@ -164,10 +154,6 @@ complement z y m h e =
     let c = mod-add-div z m in
     let d = mod-add-div y m in
     one-left (z % m + y % m + 1) m (z / m + y / m) (omega arith) (omega arith) (omega arith)
-
-ones-value : (qs : List ℕ) → Bytes qs → value (ones qs) + value qs + 1 ≡ 256 ^ length qs
-ones-value [] b = refl
-ones-value (q ∷ qs) b = let ih = ones-value qs (b .1) in rw (pow-succ' 256 (length qs)) (omega arith)
 
 no-borrow : (m x y z : ℕ) → 0 < m → z + y + 1 ≡ 16 * m → carries m x z true ≡ leb (y % m) (x % m)
 no-borrow m x y z h e = go (leb (y % m) (x % m)) refl

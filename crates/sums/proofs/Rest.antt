@@ -1,5 +1,5 @@
 -- What the steps leave beside registers and flags: counts, address, bus, latches, request buffer. Each by induction over them. Assumes nothing.
-use Prim.Native.Nat.{ℕ, _+_, _*_, _/_, _%_, _<_, _≤_}
+use Prim.Native.Nat.{ℕ, _+_, _*_, _%_, _<_, _≤_}
 use mathlib.Core.Path.{_≡_, refl, sym, _∙_}
 use mathlib.Core.Bool.{Bool, true, false}
 use mathlib.Core.List.{List, [], _∷_}
@@ -9,10 +9,11 @@ use lib.ListN.{length, getD, set, length-set}
 use lib.Seq.{getD-set-same, getD-set-other}
 use borrow.Author.Tests.{eqb-true, eqb-false, ltb-true, ltb-false}
 use Rattle.control.specs.Latches.{used}
+use Rattle.engine.proofs.Places.{put-length, put-other}
 use Rattle.engine.specs.Run.{World, put4Of}
 use Rattle.state.specs.declared.Core.{Core}
 use Rattle.state.specs.declared.Latches.{Latches}
-use Rattle.sums.specs.Sums.{Step, Cut, Sign, bytesOf, rrAfter}
+use Rattle.sums.specs.Sums.{Step, Cut, Sign, byteCount, rrAfter}
 use Rattle.sums.specs.Sums.Step.{byte, pair}
 use Rattle.sums.proofs.Run.{stepOn, after}
 
@@ -22,21 +23,6 @@ none-used l e h =
     λ i. record { g = l .g; tr = l .tr; ics = l .ics; interrupts = l .interrupts; marked = sym e i; modification = sym h i }
 
 -- ---- one place of the request buffer
-
-put-length : (b : List ℕ) (at x : ℕ) → length (put4Of b at x) ≡ length b
-unfolding put4Of
-put-length b at x = simp length-set
-
-put-other : (b : List ℕ) (at x i d : ℕ) → (at ≤ i → i < at + 4 → ⊥) → getD (put4Of b at x) i d ≡ getD b i d
-unfolding put4Of
-put-other b at x i d n =
-    let one = set b at (x % 256) in
-    let two = set one (at + 1) (x / 256 % 256) in
-    let three = set two (at + 2) (x / 65536 % 256) in
-    getD-set-other three (at + 3) i (x / 16777216 % 256) d (λ e. n (omega arith) (omega arith))
-    ∙ getD-set-other two (at + 2) i (x / 65536 % 256) d (λ e. n (omega arith) (omega arith))
-    ∙ getD-set-other one (at + 1) i (x / 256 % 256) d (λ e. n (omega arith) (omega arith))
-    ∙ getD-set-other b at i (x % 256) d (λ e. n (omega arith) (omega arith))
 
 -- a 0 that is set here, or stood there
 zero-set : (l : List ℕ) (at i d : ℕ) → i < length l → ((i ≡ at → ⊥) → getD l i d ≡ 0) → getD (set l at 0) i d ≡ 0
@@ -69,7 +55,7 @@ module _ (sign : Sign) (ws : List ℕ) where
   attempts-are later (t ∷ ts) w = attempts-are true ts (stepOn sign later t ws w) ∙ omega arith
 
   pub microcycles-are : (later : Bool) (cut : Cut) (w : World)
-      → after sign later cut ws w .microcycles ≡ w .microcycles + bytesOf cut
+      → after sign later cut ws w .microcycles ≡ w .microcycles + byteCount cut
   microcycles-are later [] w = omega arith
   microcycles-are later (byte a b ∷ ts) w = microcycles-are true ts (stepOn sign later (byte a b) ws w) ∙ omega arith
   microcycles-are later (pair a b ∷ ts) w = microcycles-are true ts (stepOn sign later (pair a b) ws w) ∙ omega arith

@@ -1,15 +1,16 @@
 -- A run of a cut's words is its steps one after the other: by induction over them. Assumes nothing.
 use Prim.Native.Nat.{ℕ, _+_, _*_, _/_, _%_, _≤_}
-use mathlib.Core.Path.{_≡_, refl, _∙_}
+use mathlib.Core.Path.{_≡_, refl, sym, _∙_}
 use mathlib.Core.Bool.{Bool, true, false}
 use mathlib.Core.List.{List, [], _∷_}
 use native.Mathlib.Omega.{arith}
 use lib.Dec.{eqb}
 use lib.ListN.{length}
-use Rattle.alu.specs.Cycle.{bit}
-use Rattle.attempt.specs.Attempt.{Ended, attemptOf, wordAt}
+use Rattle.choose.specs.Ranged.{bit}
+use Rattle.numbers.specs.Numbers.{wordAt}
 use Rattle.control.specs.Next.{plusOne}
 use Rattle.cycles.specs.Cycles.{Made}
+use Rattle.engine.proofs.Runs.{run-cons}
 use Rattle.engine.specs.Run.{World, world, put4Of, steppedOf, runFrom}
 use Rattle.state.specs.declared.Core.{Core}
 use Rattle.state.specs.declared.Sample.{Sample}
@@ -41,11 +42,6 @@ next-place ws at (i ∷ is) u h =
     let there : plusOne at ≡ at + 1 = omega arith in
     rw there h
 
-run-suc : (ws : List ℕ) (s : Sample) (ss : List Sample) (w : World) (e : Ended) → attemptOf ws [] (w .file) (w .core) s ≡ e
-    → e .outcome .refusal ≡ 0 → runFrom ws [] (s ∷ ss) w ≡ runFrom ws [] ss (steppedOf w e)
-unfolding runFrom
-run-suc ws s ss w e h r = rw (h, r)
-
 stepped-is : (w : World) (k : Core) (m : Made) (loads wide : Bool)
     → steppedOf w (endedAt k m loads wide)
     ≡ world (m .file) (coreAfter k (m .flags) loads) 0 (w .attempts + 1) (w .microcycles + (1 + bit wide)) (put4Of (w .buffer) (w .attempts * 4) 0)
@@ -60,6 +56,6 @@ run-is sign later [] ws [] w u f p c m = refl
 run-is sign later [] ws (s ∷ ss) w u f p c m = absurd c
 run-is sign later (t ∷ ts) ws [] w u f p c m = absurd c
 run-is sign later (t ∷ ts) ws (s ∷ ss) w u f p c m =
-    run-suc ws s ss w _ (attempt-is sign later t ws (w .file) (w .core) s (f .0) (p .0) (p .1) (p .2) m (c .0) (c .1)) refl
+    run-cons ws [] s ss w _ (sym (attempt-is sign later t ws (w .file) (w .core) s (f .0) (p .0) (p .1) (p .2) m (c .0) (c .1))) refl
     ∙ rw stepped-is
     (run-is sign true ts ws ss (stepOn sign later t ws w) u (f .1) (next-place ws (w .core .address .lc) (instructionsOf sign true ts) u (p .3)) (c .2) refl)

@@ -1,7 +1,7 @@
 -- What a cut's steps leave is what demand 3 says: the run's parts put together. Assumes nothing.
 use Prim.Native.Nat.{ℕ, _-_, _≤_}
 use mathlib.Core.Path.{_≡_, refl, ap, sym, subst⁻¹, _∙_}
-use mathlib.Core.Bool.{Bool, true, false}
+use mathlib.Core.Bool.{Bool, true, false, Bool·not-not}
 use mathlib.Core.List.{List, [], _∷_}
 use native.Mathlib.Omega.{arith}
 use lib.Dec.{eqb, leb}
@@ -14,13 +14,13 @@ use Rattle.cycles.specs.Cycles.{Made, made}
 use Rattle.engine.specs.Run.{World, world, runFrom}
 use Rattle.state.specs.declared.Core.{Core}
 use Rattle.state.specs.declared.Sample.{Sample}
-use Rattle.sums.specs.Sums.{Cut, Sign, targets, sources, bytesOf, Given, Summed, registersAt, targetBytes, sourceBytes, targetIn, resultOf, cOf, vOf, c8Of, c4Of, lastTargets}
+use Rattle.sums.specs.Sums.{Cut, Sign, targets, sources, byteCount, Given, Summed, registersAt, targetBytes, sourceBytes, targetIn, resultOf, cOf, vOf, c8Of, c4Of, lastTargets}
 use Rattle.sums.specs.Sums.Sign.{plus, minus}
 use Rattle.sums.proofs.Codes.{carryIn}
-use Rattle.sums.proofs.Cycles.{marks}
+use Rattle.sums.proofs.Cycles.{oddCodeFlags}
 use Rattle.sums.proofs.Run.{after, run-is}
 use Rattle.sums.proofs.Rest.{answer-is, attempts-are, microcycles-are, lc-is, rr-is, kept-is, latches-are, room-is, requests-other, requests-there}
-use Rattle.sums.proofs.Chain.{added, cutMade, made-is, chainFile, file-is, flags-are, chain-length, chain-bytes, chain-other, chain-source, Separate, separate, chain-target, lastCycle, chain-last, zero-is, not-not}
+use Rattle.sums.proofs.Chain.{added, cutMade, made-is, chainFile, file-is, flags-are, chain-length, chain-bytes, chain-other, chain-source, Separate, separate, chain-target, lastCycle, chain-last, zero-is}
 use Rattle.sums.proofs.Numbers.{Last, last-is, result-law, c-law, last-v-law, c4-law, lastByte, sign-law}
 use Rattle.sums.proofs.Given.{low-left, low-right, all-fit, same-length, some-bytes, registers-length, registers-bytes, lc-below}
 
@@ -35,22 +35,22 @@ abbrev lastOf : Sign → List ℕ → ℕ → Cut → Cycle
 lastOf sign xs g cut = lastCycle sign (before sign) (registersAt xs g (targets cut)) (registersAt xs g (sources cut)) (carryIn sign)
 
 flags-from : (sign : Sign) (xs : List ℕ) (g : ℕ) (cut : Cut) (f : Flags) → 1 ≤ length cut → Separate g (targets cut) (sources cut)
-    → cutMade sign xs g (carryIn sign) cut f .flags ≡ marks (lastOf sign xs g cut) (cutMade sign xs g (carryIn sign) cut f .flags .z)
+    → cutMade sign xs g (carryIn sign) cut f .flags ≡ oddCodeFlags (lastOf sign xs g cut) (cutMade sign xs g (carryIn sign) cut f .flags .z)
 flags-from sign xs g [] f some h = absurd (omega arith)
 flags-from sign xs g (t ∷ ts) f some h =
-    flags-are sign xs g (carryIn sign) (t ∷ ts) (marks (before sign) false) (before sign) refl
-    ∙ ap (λ (y : Cycle). marks y (cutMade sign xs g (carryIn sign) (t ∷ ts) f .flags .z))
+    flags-are sign xs g (carryIn sign) (t ∷ ts) (oddCodeFlags (before sign) false) (before sign) refl
+    ∙ ap (λ (y : Cycle). oddCodeFlags y (cutMade sign xs g (carryIn sign) (t ∷ ts) f .flags .z))
     (chain-last sign (before sign) xs g (carryIn sign) (targets (t ∷ ts)) (sources (t ∷ ts)) h)
 
 zero-from : (sign : Sign) (xs : List ℕ) (g : ℕ) (cut : Cut) (f : Flags) → 1 ≤ length cut → length xs ≡ 26 → Separate g (targets cut) (sources cut)
     → cutMade sign xs g (carryIn sign) cut f .flags .z
     ≡ eqb (value (registersAt (cutMade sign xs g (carryIn sign) cut f .file) g (lastTargets [] cut))) 0
 zero-from sign xs g [] f some l h = absurd (omega arith)
-zero-from sign xs g (t ∷ ts) f some l h = zero-is sign xs g (carryIn sign) (t ∷ ts) (marks (before sign) true) [] l h refl
+zero-from sign xs g (t ∷ ts) f some l h = zero-is sign xs g (carryIn sign) (t ∷ ts) (oddCodeFlags (before sign) true) [] l h refl
 
 c8-twice : (sign : Sign) (t : Bool) → c8Of sign (c8Of sign t) ≡ t
 c8-twice plus t = refl
-c8-twice minus t = not-not t
+c8-twice minus t = Bool·not-not t
 
 -- ---- all of it
 
@@ -59,7 +59,7 @@ abbrev stepsOf : Sign → Cut → List ℕ → List ℕ → Core → List ℕ �
 stepsOf sign cut ws xs k buffer = after sign false cut ws (world xs k 0 0 0 buffer)
 
 module _ (sign : Sign) (cut : Cut) (ws : List ℕ) (ss : List Sample) (xs : List ℕ) (k : Core) (buffer : List ℕ) (h : Given sign cut ws ss xs k buffer) where
-  run-steps : runFrom ws [] ss (world xs k 0 0 0 buffer) ≡ stepsOf sign cut ws xs k buffer
+  pub run-steps : runFrom ws [] ss (world xs k 0 0 0 buffer) ≡ stepsOf sign cut ws xs k buffer
   run-steps =
       let fit = all-fit cut (low-left (targets cut) (sources cut) (h .different)) (low-right (targets cut) (sources cut) (h .different)) (h .even) in
       run-is sign false cut ws ss (world xs k 0 0 0 buffer) (h .words) fit (h .in-place) (h .computing) (h .unmarked)
@@ -83,7 +83,7 @@ module _ (sign : Sign) (cut : Cut) (ws : List ℕ) (ss : List Sample) (xs : List
       ∙ chain-target sign xs (k .latches .g) (carryIn sign) (targets cut) (sources cut) (h .file) (same-length cut) apart
 
   flags-after : stepsOf sign cut ws xs k buffer .core .flags
-      ≡ marks (lastOf sign xs (k .latches .g) cut) (cutMade sign xs (k .latches .g) (carryIn sign) cut (k .flags) .flags .z)
+      ≡ oddCodeFlags (lastOf sign xs (k .latches .g) cut) (cutMade sign xs (k .latches .g) (carryIn sign) cut (k .flags) .flags .z)
   flags-after = ap (λ (m : Made). m .flags) made-after ∙ flags-from sign xs (k .latches .g) cut (k .flags) (h .some) apart
 
   zero-after : stepsOf sign cut ws xs k buffer .core .flags .z
@@ -96,7 +96,7 @@ module _ (sign : Sign) (cut : Cut) (ws : List ℕ) (ss : List Sample) (xs : List
   last-after : Last sign (before sign) (targetBytes xs k cut) (sourceBytes xs k cut) (carryIn sign) (lastOf sign xs (k .latches .g) cut)
   last-after = last-is sign (before sign) (targetBytes xs k cut) (sourceBytes xs k cut) (carryIn sign) same-bytes refl refl
 
-  sign-after : stepsOf sign cut ws xs k buffer .core .flags .n ≡ leb (half (bytesOf cut - 1)) (targetIn (stepsOf sign cut ws xs k buffer .file) k cut)
+  sign-after : stepsOf sign cut ws xs k buffer .core .flags .n ≡ leb (half (byteCount cut - 1)) (targetIn (stepsOf sign cut ws xs k buffer .file) k cut)
   sign-after =
       let ys = stepsOf sign cut ws xs k buffer .file in
       let n = registers-length ys (k .latches .g) (targets cut) in

@@ -7,9 +7,9 @@ use mathlib.Core.List.{List, [], _∷_, _++_}
 use lib.Dec.{eqb, ltb, leb}
 use lib.ListN.{length, getD}
 use Rattle.alu.specs.Cycle.{sumOutside}
-use Rattle.alu.specs.Numbers.{value, Bytes, half, differenceOutside}
+use Rattle.alu.specs.Numbers.{value, half, differenceOutside}
 use Rattle.choose.specs.Ranged.{pick}
-use Rattle.attempt.specs.Attempt.{wordAt}
+use Rattle.numbers.specs.Numbers.{wordAt, Bytes}
 use Rattle.control.specs.Next.{plusOne}
 use Rattle.engine.specs.Run.{World}
 use Rattle.state.specs.File.{registerOf, slotOf}
@@ -51,26 +51,26 @@ sources (byte a b ∷ ts) = b ∷ sources ts
 sources (pair a b ∷ ts) = b ∷ suc b ∷ sources ts
 
 -- how many, k
-abbrev pub bytesOf : Cut → ℕ
-bytesOf cut = length (targets cut)
+abbrev pub byteCount : Cut → ℕ
+byteCount cut = length (targets cut)
 
 pub data Sign : Type 0 where
   plus minus : Sign
 
 -- the unconditional adds and subtracts that update the flags, by sign, whether a step went before (then with carry in) and whether it is of a pair
-abbrev pub codeOf : Sign → Bool → Bool → ℕ
-codeOf plus false false = 0xA1
-codeOf plus false true = 0xA3
-codeOf plus true false = 0xA9
-codeOf plus true true = 0xAB
-codeOf minus false false = 0xB1
-codeOf minus false true = 0xB3
-codeOf minus true false = 0xB9
-codeOf minus true true = 0xBB
+abbrev pub stepCode : Sign → Bool → Bool → ℕ
+stepCode plus false false = 0xA1
+stepCode plus false true = 0xA3
+stepCode plus true false = 0xA9
+stepCode plus true true = 0xAB
+stepCode minus false false = 0xB1
+stepCode minus false true = 0xB3
+stepCode minus true false = 0xB9
+stepCode minus true true = 0xBB
 
 -- bits 15-0 of a step's word
 abbrev pub instructionOf : Sign → Bool → Step → ℕ
-instructionOf sign later t = codeOf sign later (isPair t) * 0x100 + sourceOf t * 0x10 + targetOf t
+instructionOf sign later t = stepCode sign later (isPair t) * 0x100 + sourceOf t * 0x10 + targetOf t
 
 abbrev pub instructionsOf : Sign → Bool → Cut → List ℕ
 instructionsOf sign later [] = []
@@ -94,7 +94,7 @@ Even [] = Unit {0}
 Even (byte a b ∷ ts) = Even ts
 Even (pair a b ∷ ts) = (a % 2 ≡ 0) × (b % 2 ≡ 0) × Even ts
 
--- the words from an address on have these bits 15-0, and any bits 21-16
+-- the words from an address on, not past the last one, have these bits 15-0, and any bits 21-16
 abbrev pub InPlace : List ℕ → ℕ → List ℕ → Type 0
 InPlace ws at [] = Unit {0}
 InPlace ws at (i ∷ is) =
@@ -191,15 +191,15 @@ pub record Summed (sign : Sign) (cut : Cut) (ws : List ℕ) (xs : List ℕ) (cor
   -- all samples used, an attempt for each step, a microcycle for each byte
   pub answer : w .answer ≡ 0
   pub attempts : w .attempts ≡ length cut
-  pub microcycles : w .microcycles ≡ bytesOf cut
+  pub microcycles : w .microcycles ≡ byteCount cut
   -- the target, C and V, by the two numbers that were there
-  pub target : targetIn (w .file) core cut ≡ resultOf sign (bytesOf cut) (targetIn xs core cut) (sourceIn xs core cut)
-  pub c : w .core .flags .c ≡ cOf sign (bytesOf cut) (targetIn xs core cut) (sourceIn xs core cut)
-  pub v : w .core .flags .v ≡ vOf sign (bytesOf cut) (targetIn xs core cut) (sourceIn xs core cut)
+  pub target : targetIn (w .file) core cut ≡ resultOf sign (byteCount cut) (targetIn xs core cut) (sourceIn xs core cut)
+  pub c : w .core .flags .c ≡ cOf sign (byteCount cut) (targetIn xs core cut) (sourceIn xs core cut)
+  pub v : w .core .flags .v ≡ vOf sign (byteCount cut) (targetIn xs core cut) (sourceIn xs core cut)
   -- the other flags: C8 the carry, C4 the carry into the highest digit, NB and N the target's sign, ZB and Z that the last step's bytes are 0
   pub c8 : w .core .flags .c8 ≡ c8Of sign (w .core .flags .c)
-  pub c4 : w .core .flags .c4 ≡ c4Of sign (bytesOf cut) (targetIn xs core cut) (sourceIn xs core cut)
-  pub n : w .core .flags .n ≡ leb (half (bytesOf cut - 1)) (targetIn (w .file) core cut)
+  pub c4 : w .core .flags .c4 ≡ c4Of sign (byteCount cut) (targetIn xs core cut) (sourceIn xs core cut)
+  pub n : w .core .flags .n ≡ leb (half (byteCount cut - 1)) (targetIn (w .file) core cut)
   pub nb : w .core .flags .nb ≡ w .core .flags .n
   pub z : w .core .flags .z ≡ eqb (value (registersAt (w .file) (core .latches .g) (lastTargets [] cut))) 0
   pub zb : w .core .flags .zb ≡ w .core .flags .z

@@ -10,10 +10,11 @@ use Rattle.alu.specs.Marks.{afterOf, afterByteOf, afterWordOf}
 use Rattle.alu.specs.declared.Cycle.{Cycle}
 use Rattle.alu.specs.declared.Flags.{Flags}
 use Rattle.alu.specs.declared.Kind.{Kind}
-use Rattle.cycles.specs.Cycles.{Made, chosen, stepOf, oneCycleOf, joinedOf, twoCyclesOf}
+use Rattle.choose.proofs.Choice.{pick-all}
+use Rattle.cycles.specs.Cycles.{Made, stepOf, oneCycleOf, oneThenOther, twoCyclesOf}
 use Rattle.cycles.specs.declared.Names.{Names}
 use Rattle.cycles.specs.declared.Plan.{Plan}
-use Rattle.table_laws.specs.Table.{Keeps, Obeys}
+use Rattle.table_laws.specs.Table.{FlagsKept, Obeys}
 
 -- moves and logic keep C4, C8 and C
 abbrev pub carries : Kind → Bool
@@ -58,7 +59,7 @@ pub set : {A : Type 0} → _≡_ {A = ℕ} 1 0 → A
 set e = absurd (omega arith)
 
 -- "condition flags (N Z V C) only by .. odd codes"
-pub after-keeps : (t odd : Bool) (f : Flags) (y : Cycle) (zero : Bool) → (t ≡ true → Carried f y) → Keeps (marks t odd) f (afterOf f y zero odd)
+pub after-keeps : (t odd : Bool) (f : Flags) (y : Cycle) (zero : Bool) → (t ≡ true → Carried f y) → FlagsKept (marks t odd) f (afterOf f y zero odd)
 unfolding afterOf
 after-keeps true true f y zero h =
     record { n = set; z = set; v = set; c = λ e. h refl .c; nb = set; zb = set; c4 = λ e. h refl .c4; c8 = λ e. h refl .c8 }
@@ -82,11 +83,6 @@ after-keeps false false f y zero h =
 abbrev pub Follows : Plan → Bool → List ℕ → Flags → Made → Type 0
 Follows plan odd xs f m = Obeys (plan .stores) (marks (carries (plan .kind)) odd) xs (m .file) f (m .flags)
 
-chosen-follows : (plan : Plan) (odd : Bool) (xs : List ℕ) (f : Flags) (t : Bool) (l m : Made)
-    → Follows plan odd xs f l → Follows plan odd xs f m → Follows plan odd xs f (chosen t l m)
-chosen-follows plan odd xs f true l m p q = p
-chosen-follows plan odd xs f false l m p q = q
-
 module _ (g : ℕ) (f : Flags) (plan : Plan) where
   -- "Compare and test write no register"
   step-file : (xs : List ℕ) (at : Names) (carry high : Bool) → plan .stores ≡ false → stepOf xs g f plan at carry high .file ≡ xs
@@ -105,7 +101,7 @@ module _ (g : ℕ) (f : Flags) (plan : Plan) where
         flags = after-keeps (carries (plan .kind)) odd f _ _ (step-carried xs at (plan .carry) false);
       }
 
-  joined : (xs : List ℕ) (one other : Names) (high odd : Bool) → Follows plan odd xs f (joinedOf xs g f plan one other high odd)
+  joined : (xs : List ℕ) (one other : Names) (high odd : Bool) → Follows plan odd xs f (oneThenOther xs g f plan one other high odd)
   unfolding afterWordOf
   joined xs one other high odd =
       record {
@@ -116,4 +112,4 @@ module _ (g : ℕ) (f : Flags) (plan : Plan) where
   pub two-cycles : (xs : List ℕ) (low high : Names) (odd : Bool) → Follows plan odd xs f (twoCyclesOf xs g f plan low high odd)
   unfolding twoCyclesOf
   two-cycles xs low high odd =
-      chosen-follows plan odd xs f (highFirstOf (plan .kind)) _ _ (joined xs high low true odd) (joined xs low high false odd)
+      pick-all (Follows plan odd xs f) (highFirstOf (plan .kind)) _ _ (joined xs high low true odd) (joined xs low high false odd)

@@ -8,13 +8,13 @@ use lib.Dec.{eqb, ltb}
 use Rattle.alu.specs.Cycle.{keptOf}
 use Rattle.alu.specs.Marks.{afterByteOf}
 use Rattle.alu.specs.declared.Flags.{Flags}
-use Rattle.attempt_laws.proofs.Choice.{pick-all, pick-both}
+use Rattle.choose.proofs.Choice.{pick-all, pick-both}
 use Rattle.attempt_laws.specs.Fate.{odd}
 use Rattle.choose.specs.Ranged.{pick, ranged}
 use Rattle.cycles.specs.Cycles.{Made, made}
 use Rattle.cycles.specs.declared.Plan.{Plan}
 use Rattle.execute.specs.Execute.{names, literalOf, comparedOf, loadedOf, copiedOf, steppedByOf, seventiesOf, workedOf, workOf, inputOf, accessOf, registersOf}
-use Rattle.plan.specs.Plan.{planOf, goesOf, literalPlanOf}
+use Rattle.plan.specs.Plan.{planOf, conditionMet, literalPlanOf}
 use Rattle.state.specs.File.{highOf, registerOf}
 use Rattle.state.specs.declared.Core.{Core}
 use Rattle.table_laws.specs.Table.{Obeys}
@@ -60,12 +60,12 @@ registersSay code f =
 -- ---- two choices by the same ranges
 
 infixr 5 _also_
-data Both {A B : Type 0} (P : A → B → Type 0) : List (ℕ × A) → List (ℕ × B) → Type 0 where
+pub data Both {A B : Type 0} (P : A → B → Type 0) : List (ℕ × A) → List (ℕ × B) → Type 0 where
   end : Both P [] []
   _also_ : {n : ℕ} {a : A} {b : B} {ms : List (ℕ × A)} {ns : List (ℕ × B)} → P a b → Both P ms ns → Both P ((n, a) ∷ ms) ((n, b) ∷ ns)
 
 module _ {A B : Type 0} (P : A → B → Type 0) where
-  ranged-both : (x : ℕ) {ms : List (ℕ × A)} {ns : List (ℕ × B)} (d : A) (e : B) → Both P ms ns → P d e → P (ranged x ms d) (ranged x ns e)
+  pub ranged-both : (x : ℕ) {ms : List (ℕ × A)} {ns : List (ℕ × B)} (d : A) (e : B) → Both P ms ns → P d e → P (ranged x ms d) (ranged x ns e)
   unfolding ranged
   ranged-both x d e end q = q
   ranged-both x d e (_also_ {n} p h) q = pick-both P (ltb x n) _ _ _ _ p (ranged-both x d e h q)
@@ -129,7 +129,7 @@ module _ (xs : List ℕ) (g : ℕ) (f : Flags) where
   -- "A failed condition .. changes registers and flags not at all"
   work-obeys : (ics : Bool) (code b a : ℕ) → Follow (planned (planOf code f) (odd code)) (workOf xs g f ics code b a)
   unfolding workOf
-  work-obeys ics code b a = pick-all (Follow (planned (planOf code f) (odd code))) (goesOf code (f .c) ics) _ _ (worked-obeys code b a) (untouched _ _ xs f)
+  work-obeys ics code b a = pick-all (Follow (planned (planOf code f) (odd code))) (conditionMet code (f .c) ics) _ _ (worked-obeys code b a) (untouched _ _ xs f)
 
   input-obeys : (code dal m b a : ℕ) → Follow (columns true (marks true (odd code))) (inputOf xs g f code dal m b a)
   unfolding inputOf

@@ -2,3 +2,5 @@ pub mod Cycles
 pub mod Instructions
 pub mod Rows
 pub mod Theorem
+pub mod Fates
+pub mod Set

@@ -5,9 +5,10 @@ use mathlib.Core.Path.{_≡_, refl}
 use mathlib.Core.Bool.{Bool, true, false, _&&_, Bool·beq}
 use lib.Dec.{T, eqb, ltb, eqb→eq, ltb→lt}
 use Rattle.alu.specs.declared.Flags.{Flags}
-use Rattle.choose.proofs.Table.{below, both-left, both-right}
+use Rattle.choose.proofs.Table.{below}
+use Rattle.choose.proofs.Tests.{both-left, both-right, equal-tests}
 use Rattle.choose.specs.Ranged.{pick, ranged}
-use Rattle.code.specs.Rows.{classOf, listed, statusOf, conditionOf, storesOf, rowOf}
+use Rattle.code.specs.Rows.{classOf, listed, statusFlagsOf, conditionFlagsOf, storesOf, rowOf}
 use Rattle.code.specs.Word.{same}
 use Rattle.code.specs.declared.Class.{Class}
 use Rattle.plan.specs.Plan.{planOf, literalPlanOf}
@@ -19,12 +20,6 @@ use Rattle.table_laws.proofs.Instructions.{Columns, nothing, literalSay
 abbrev agrees : Columns → ℕ → Bool
 agrees s code = Bool·beq (s .stores) (storesOf code) && eqb (s .flags) (maskOf code)
 
-equal-tests : (a b : Bool) → T (Bool·beq a b) → a ≡ b
-equal-tests true true t = refl
-equal-tests true false t = absurd t
-equal-tests false true t = absurd t
-equal-tests false false t = refl
-
 abbrev pub Agrees : Columns → ℕ → Type 0
 Agrees s code = (s .stores ≡ storesOf code) × (s .flags ≡ maskOf code)
 
@@ -34,19 +29,14 @@ agreed s code t =
     let flags = eqb (s .flags) (maskOf code) in
     (equal-tests _ _ (both-left stores flags t), eqb→eq _ _ (both-right stores flags t))
 
--- the jumps, below 20, have nothing marked
-pub jumps-say : (code : ℕ) → code < 0x20 → Agrees nothing code
-unfolding ranged storesOf conditionOf statusOf
-jumps-say code h = agreed nothing code (below 0x20 (agrees nothing) tt code h)
-
 pub literal-says : (code v : ℕ) → code < 0x100 → classOf code ≡ Class.Literal → Agrees (literalSays code v) code
-unfolding classOf ranged literalSays literalPlanOf storesOf conditionOf statusOf
+unfolding classOf ranged literalSays literalPlanOf storesOf conditionFlagsOf statusFlagsOf
 literal-says code v h e =
     agreed (literalSays code v) code
     (rw e at (below 0x100 (λ x. pick (same (classOf x) Class.Literal) (agrees (literalSays x v) x) true) tt code h))
 
 pub registers-say : (code : ℕ) (f : Flags) → code < 0x100 → classOf code ≡ Class.Register → Agrees (registersSay code f) code
-unfolding classOf ranged registersSay seventiesSay planOf storesOf conditionOf statusOf
+unfolding classOf ranged registersSay seventiesSay planOf storesOf conditionFlagsOf statusFlagsOf
 registers-say code f h e =
     agreed (registersSay code f) code
     (rw e at (below 0x100 (λ x. pick (same (classOf x) Class.Register) (agrees (registersSay x f) x) true) tt code h))
@@ -58,7 +48,7 @@ unfolding comparesOrTests ranged storesOf
 compare-row code h e = equal-tests _ _ (rw e at (below 0x100 (λ x. pick (comparesOrTests x) (Bool·beq (storesOf x) false) true) tt code h))
 
 pub condition-row : (code : ℕ) → code < 0x100 → setsConditions code ≡ false → maskOf code < 0x10
-unfolding setsConditions ranged conditionOf statusOf
+unfolding setsConditions ranged conditionFlagsOf statusFlagsOf
 condition-row code h e = ltb→lt _ _ (rw e at (below 0x100 (λ x. pick (setsConditions x) true (ltb (maskOf x) 0x10)) tt code h))
 
 pub literal-row : (code : ℕ) → code < 0x100 → classOf code ≡ Class.Literal → setsConditions code ≡ false
@@ -67,7 +57,7 @@ literal-row code h e =
     equal-tests _ _ (rw e at (below 0x100 (λ x. pick (same (classOf x) Class.Literal) (Bool·beq (setsConditions x) false) true) tt code h))
 
 pub cl-row : maskOf 0x30 ≡ 0x0C
-unfolding ranged conditionOf statusOf
+unfolding ranged conditionFlagsOf statusFlagsOf
 cl-row = refl
 
 -- ---- the row of a listed code has its columns

@@ -6,16 +6,15 @@ use mathlib.Core.Bool.{true, false}
 use mathlib.Core.List.{List}
 use native.Mathlib.Omega.{arith}
 use Rattle.attempt.specs.Attempt.{Ended, executedOf, resetOf, outputsOf, attemptOf}
-use Rattle.attempt.specs.Effect.{Effected, jumpedOf, literalEffect, registerEffect, effectOf}
+use Rattle.attempt.specs.Effect.{jumpedOf, literalEffect, registerEffect, effectOf}
 use Rattle.attempt_laws.proofs.Fate.{attempt-fate}
 use Rattle.attempt_laws.specs.Fate.{Fate, refused, waited, reset, compute-low, completed, takenWord, fateOf, Bears}
 use Rattle.code.proofs.Digits.{row-of-code}
 use Rattle.code.proofs.Laws.{apart-well-formed, apart-code}
-use Rattle.code.proofs.Shape.{Fit, jump, conditional, literal, register, fit-listed}
+use Rattle.code.proofs.Shape.{fit-listed}
 use Rattle.code.proofs.Tops.{listed-below}
-use Rattle.code.proofs.Words.{WellFormed}
 use Rattle.code.specs.Rows.{classOf, listed, storesOf, rowOf}
-use Rattle.code.specs.Word.{topOf, apartOf}
+use Rattle.code.specs.Word.{topOf, apartOf, Fit, jump, conditional, literal, register, WellFormed}
 use Rattle.code.specs.declared.Apart.{Apart}
 use Rattle.code.specs.declared.Class.{Class}
 use Rattle.code.specs.declared.Fields.{Fields}
@@ -24,15 +23,11 @@ use Rattle.rows.specs.declared.Outputs.{Outputs}
 use Rattle.rows.specs.declared.Row.{Row}
 use Rattle.state.specs.declared.Core.{Core}
 use Rattle.state.specs.declared.Sample.{Sample}
-use Rattle.table_laws.specs.Table.{Keeps, ConditionsKept, maskOf, Obeys, comparesOrTests, setsConditions}
+use Rattle.table_laws.specs.Table.{FlagsKept, ConditionsKept, maskOf, comparesOrTests, setsConditions, Told, RowHolds}
 use Rattle.table_laws.proofs.Instructions.{untouched, literal-obeys, registers-obey}
 use Rattle.table_laws.proofs.Rows.{literal-says, registers-say, compare-row, condition-row, literal-row, cl-row, row-says}
 
 -- ---- every executed word
-
--- what the table says of an effect
-abbrev pub Told : List ℕ → Core → ℕ → Effected → Type 0
-Told xs k code e = Obeys (storesOf code) (maskOf code) xs (e .file) (k .flags) (e .effect .flags)
 
 code-listed : (w : Fields) → WellFormed w → listed (classOf (w .code)) ≡ true
 code-listed w f = rw (f .own) at (fit-listed (f .fitting))
@@ -68,8 +63,9 @@ module _ (xs : List ℕ) (k : Core) (s : Sample) where
   pub no-store : (w : Fields) → WellFormed w → storesOf (w .code) ≡ false → effectOf xs k (w .code) (w .operands) s .file ≡ xs
   no-store w f = effect-obeys w f .file
 
-  -- "Status (NB ZB C4 C8) is always set as 5.3.2 marks it; condition flags (N Z V C) only by LCF and odd codes 81-DF and E1-E7"
-  pub flags-kept : (w : Fields) → WellFormed w → Keeps (maskOf (w .code)) (k .flags) (effectOf xs k (w .code) (w .operands) s .effect .flags)
+  -- "Status (NB ZB C4 C8) is always set as 5.3.2 marks it; condition flags (N Z V C) only by LCF and odd codes 81-DF and E1-E7": here that what
+  -- is not marked is kept; to what the marked ones are set, Set says
+  pub flags-kept : (w : Fields) → WellFormed w → FlagsKept (maskOf (w .code)) (k .flags) (effectOf xs k (w .code) (w .operands) s .effect .flags)
   flags-kept w f = effect-obeys w f .flags
 
   -- "Compare and test write no register", by 01's list
@@ -97,10 +93,6 @@ module _ (xs : List ℕ) (k : Core) (s : Sample) where
       (h .c4 (omega arith), h .c8 (omega arith))
 
 -- ---- every attempt
-
--- what the row of a top byte says of an attempt; an unlisted one's row has no store and no flag
-abbrev pub RowHolds : ℕ → List ℕ → Core → Ended → Type 0
-RowHolds top xs k e = Obeys (rowOf top .stores) (rowOf top .flags) xs (e .file) (k .flags) (e .outcome .core .flags)
 
 module _ (xs : List ℕ) (k : Core) (s : Sample) (o : Outputs) where
   executed-row : (word : ℕ) (w : Fields) → apartOf word ≡ Apart.Word w → RowHolds (topOf word) xs k (executedOf xs k w s o)
@@ -136,7 +128,7 @@ module _ (ws : List ℕ) (rs : List Row) (xs : List ℕ) (k : Core) (s : Sample)
   attempt-stores = attempt-row .file
 
   -- and only the flags that the row marks
-  pub attempt-flags : Keeps (rowOf (topOf (takenWord ws k)) .flags) (k .flags) (attemptOf ws rs xs k s .outcome .core .flags)
+  pub attempt-flags : FlagsKept (rowOf (topOf (takenWord ws k)) .flags) (k .flags) (attemptOf ws rs xs k s .outcome .core .flags)
   attempt-flags = attempt-row .flags
 
   -- refusals, waits, RESET and COMPUTE low change no register and no flag

@@ -6,10 +6,13 @@ use mathlib.Core.List.{List}
 use lib.Dec.{eqb}
 use Rattle.alu.specs.declared.Flags.{Flags}
 use Rattle.attempt_laws.specs.Fate.{within, odd}
-use Rattle.code.specs.Rows.{statusOf, conditionOf}
+use Rattle.code.specs.Rows.{statusFlagsOf, conditionFlagsOf, storesOf, rowOf}
+use Rattle.attempt.specs.Attempt.{Ended}
+use Rattle.attempt.specs.Effect.{Effected}
+use Rattle.state.specs.declared.Core.{Core}
 
 -- each flag whose bit of the mask is 0 is as before: N Z V C are bits 7-4, NB ZB C4 C8 bits 3-0
-pub record Keeps (mask : ℕ) (before after : Flags) : Type 0 where
+pub record FlagsKept (mask : ℕ) (before after : Flags) : Type 0 where
   pub n : mask / 0x80 % 2 ≡ 0 → after .n ≡ before .n
   pub z : mask / 0x40 % 2 ≡ 0 → after .z ≡ before .z
   pub v : mask / 0x20 % 2 ≡ 0 → after .v ≡ before .v
@@ -28,12 +31,20 @@ pub record ConditionsKept (before after : Flags) : Type 0 where
 
 -- the flags that a code may write: "Status (NB ZB C4 C8) is always set as 5.3.2 marks it; condition flags (N Z V C) only by LCF and odd codes"
 abbrev pub maskOf : ℕ → ℕ
-maskOf code = conditionOf code + statusOf code
+maskOf code = conditionFlagsOf code + statusFlagsOf code
 
 -- what is not marked is not written: the file where the row does not store, and each flag outside the mask
 pub record Obeys (stores : Bool) (mask : ℕ) (before after : List ℕ) (f g : Flags) : Type 0 where
   pub file : stores ≡ false → after ≡ before
-  pub flags : Keeps mask f g
+  pub flags : FlagsKept mask f g
+
+-- what the table says of an effect
+abbrev pub Told : List ℕ → Core → ℕ → Effected → Type 0
+Told xs k code e = Obeys (storesOf code) (maskOf code) xs (e .file) (k .flags) (e .effect .flags)
+
+-- what the row of a top byte says of an attempt; an unlisted one's row has no store and no flag
+abbrev pub RowHolds : ℕ → List ℕ → Core → Ended → Type 0
+RowHolds top xs k e = Obeys (rowOf top .stores) (rowOf top .flags) xs (e .file) (k .flags) (e .outcome .core .flags)
 
 -- ---- 01's own lists of codes, which use none of the table
 

@@ -1,4 +1,4 @@
--- `alu::after` meets its contract: the two answers are the two cases of `among`.
+-- `alu::after` meets its contract: the two answers are the two cases of the choice.
 use Rattle.alu.specs.Marks.{afterOf}
 use Rattle.alu.proofs.after.Statement.{statement}
 use Rattle.alu.proofs.after.Tie as tie

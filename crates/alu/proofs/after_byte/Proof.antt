@@ -4,12 +4,9 @@ use borrow.Author.Needs.{needs}
 use Rattle.alu.proofs.after_byte.Statement.{statement}
 use Rattle.alu.proofs.after_byte.Tie as tie
 
-after-requires : tie.Need-after-requires
-after-requires c κs = search needs
-
 returns : tie.Need-returns
 unfolding afterByteOf
 returns c = c .after .ensures
 
 pub after-byte-spec : {M : Type 1} → statement M
-after-byte-spec = tie.close (tie.spec after-requires returns)
+after-byte-spec = tie.close (tie.spec (search needs) returns)

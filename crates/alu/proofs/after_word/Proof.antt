@@ -4,12 +4,9 @@ use borrow.Author.Needs.{needs}
 use Rattle.alu.proofs.after_word.Statement.{statement}
 use Rattle.alu.proofs.after_word.Tie as tie
 
-after-requires : tie.Need-after-requires
-after-requires c κs = search needs
-
 returns : tie.Need-returns
 unfolding afterWordOf
 returns c = c .after .ensures
 
 pub after-word-spec : {M : Type 1} → statement M
-after-word-spec = tie.close (tie.spec after-requires returns)
+after-word-spec = tie.close (tie.spec (search needs) returns)

@@ -29,14 +29,8 @@ others Ones h = refl
 others Left h = refl
 others Right h = absurd (miss tags 9 tt h)
 
-enum-told : tie.Need-enum-told
-enum-told c = search needs
-
-returns : tie.Need-returns
-returns c = search needs
-
 returns-2 : tie.Need-returns-2
 returns-2 c = others (c .before .args .kind) (c .match .keys2)
 
 pub high-first-spec : {M : Type 1} → statement M
-high-first-spec = tie.close (tie.spec enum-told returns returns-2)
+high-first-spec = tie.close (tie.spec (search needs) (λ c. search needs) returns-2)

@@ -4,15 +4,9 @@ use borrow.Author.Needs.{needs}
 use Rattle.attempt.proofs.literal.Statement.{statement}
 use Rattle.attempt.proofs.literal.Tie as tie
 
-used-requires : tie.Need-used-requires
-used-requires c κs = search needs
-
-literal-requires : tie.Need-literal-requires
-literal-requires c κs = search needs
-
 returns : tie.Need-returns
 unfolding literalEffect
 returns c = rw (← c .literal .ensures, c .before .before .used .ensures)
 
 pub literal-spec : {M : Type 1} → statement M
-literal-spec = tie.close (tie.spec used-requires literal-requires returns)
+literal-spec = tie.close (tie.spec (search needs) (search needs) returns)

@@ -7,12 +7,6 @@ use borrow.Author.Needs.{needs}
 use Rattle.attempt.proofs.modified.Statement.{statement}
 use Rattle.attempt.proofs.modified.Tie as tie
 
-mul-result : tie.Need-mul-result
-mul-result c = search needs
-
-cast-result : tie.Need-cast-result
-cast-result c = search needs
-
 add-result : tie.Need-add-result
 add-result c = omega (arith, or-lt 16 (c .before .before .args .word % 0x1_0000) (c .before .before .args .l .modification) (omega arith) (search needs))
 
@@ -25,4 +19,4 @@ unfolding modifiedOf
 returns-2 c = rw (c .if1 .left)
 
 pub modified-spec : {M : Type 1} → statement M
-modified-spec = tie.close (tie.spec mul-result cast-result add-result returns returns-2)
+modified-spec = tie.close (tie.spec (search needs) (search needs) add-result returns returns-2)

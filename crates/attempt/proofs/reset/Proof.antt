@@ -4,12 +4,9 @@ use borrow.Author.Needs.{needs}
 use Rattle.attempt.proofs.reset.Statement.{statement}
 use Rattle.attempt.proofs.reset.Tie as tie
 
-used-requires : tie.Need-used-requires
-used-requires c κs = search needs
-
 returns : tie.Need-returns
 unfolding resetOf
 returns c = rw (c .used .ensures)
 
 pub reset-spec : {M : Type 1} → statement M
-reset-spec = tie.close (tie.spec used-requires returns)
+reset-spec = tie.close (tie.spec (search needs) returns)

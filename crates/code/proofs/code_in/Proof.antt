@@ -3,55 +3,13 @@ use borrow.Author.Needs.{needs}
 use Rattle.code.proofs.code_in.Statement.{statement}
 use Rattle.code.proofs.code_in.Tie as tie
 
-enum-told : tie.Need-enum-told
-enum-told c = search needs
-
-enum-told-2 : tie.Need-enum-told-2
-enum-told-2 c = search needs
-
-mul-result : tie.Need-mul-result
-mul-result c = search needs
-
-enum-told-3 : tie.Need-enum-told-3
-enum-told-3 c = search needs
-
-enum-told-4 : tie.Need-enum-told-4
-enum-told-4 c = search needs
-
-mul-result-2 : tie.Need-mul-result-2
-mul-result-2 c = search needs
-
-enum-told-5 : tie.Need-enum-told-5
-enum-told-5 c = search needs
-
-returns : tie.Need-returns
-returns c = search needs
-
-returns-2 : tie.Need-returns-2
-returns-2 c = rw (c .enum-told2 .given .1)
-
-returns-3 : tie.Need-returns-3
-returns-3 c = search needs
-
-returns-4 : tie.Need-returns-4
-returns-4 c = rw (c .enum-told4 .given .1)
-
-returns-5 : tie.Need-returns-5
-returns-5 c = search needs
-
 pub code-in-spec : {M : Type 1} → statement M
 code-in-spec =
     tie.close
     (tie.spec
-    enum-told
-    enum-told-2
-    mul-result
-    enum-told-3
-    enum-told-4
-    mul-result-2
-    enum-told-5
-    returns
-    returns-2
-    returns-3
-    returns-4
-    returns-5)
+    (search needs) (search needs) (search needs) (search needs) (search needs) (search needs) (search needs)
+    (λ c. search needs)
+    (λ c. rw (c .enum-told2 .given .1))
+    (λ c. search needs)
+    (λ c. rw (c .enum-told4 .given .1))
+    (λ c. search needs))

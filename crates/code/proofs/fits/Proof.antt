@@ -5,24 +5,6 @@ use borrow.Author.Needs.{needs}
 use Rattle.code.proofs.fits.Statement.{statement}
 use Rattle.code.proofs.fits.Tie as tie
 
-enum-known-operands : tie.Need-enum-known-operands
-enum-known-operands c = search needs
-
-reach-requires : tie.Need-reach-requires
-reach-requires c κs = search needs
-
-enum-known-operands-2 : tie.Need-enum-known-operands-2
-enum-known-operands-2 c = search needs
-
-is-same-requires : tie.Need-is-same-requires
-is-same-requires c κs = search needs
-
-enum-known-operands-3 : tie.Need-enum-known-operands-3
-enum-known-operands-3 c = search needs
-
-is-same-requires-2 : tie.Need-is-same-requires-2
-is-same-requires-2 c κs = search needs
-
 returns : tie.Need-returns
 unfolding fitsIn
 returns c = rw (c .before .before .operands .given .1, c .reach .ensures)
@@ -41,12 +23,7 @@ pub fits-spec : {M : Type 1} → statement M
 fits-spec =
     tie.close
     (tie.spec
-    enum-known-operands
-    reach-requires
-    enum-known-operands-2
-    is-same-requires
-    enum-known-operands-3
-    is-same-requires-2
+    (search needs) (search needs) (search needs) (search needs) (search needs) (search needs)
     returns
     returns-2
     returns-3)

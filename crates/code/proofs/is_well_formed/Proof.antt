@@ -4,18 +4,6 @@ use borrow.Author.Needs.{needs}
 use Rattle.code.proofs.is_well_formed.Statement.{statement}
 use Rattle.code.proofs.is_well_formed.Tie as tie
 
-class-of-requires : tie.Need-class-of-requires
-class-of-requires c κs = search needs
-
-is-same-requires : tie.Need-is-same-requires
-is-same-requires c κs = search needs
-
-code-in-requires : tie.Need-code-in-requires
-code-in-requires c κs = search needs
-
-fits-requires : tie.Need-fits-requires
-fits-requires c κs = search needs
-
 returns : tie.Need-returns
 unfolding wellFormed
 returns c =
@@ -24,5 +12,4 @@ returns c =
     rw (c .before .fits2 .ensures, code .code-in .ensures, class .is-same .ensures, class .before .class-of .ensures)
 
 pub is-well-formed-spec : {M : Type 1} → statement M
-is-well-formed-spec =
-    tie.close (tie.spec class-of-requires is-same-requires code-in-requires fits-requires returns)
+is-well-formed-spec = tie.close (tie.spec (search needs) (search needs) (search needs) (search needs) returns)

@@ -5,14 +5,8 @@ use borrow.Author.Needs.{needs}
 use Rattle.code.proofs.row_of.Statement.{statement}
 use Rattle.code.proofs.row_of.Tie as tie
 
-rows-requires : tie.Need-rows-requires
-rows-requires c κs = search needs
-
-row-in-requires : tie.Need-row-in-requires
-row-in-requires c κs = search needs
-
 returns : tie.Need-returns
 returns c = c .row-in .ensures ∙ rw (c .before .before .rows .ensures) (row-at _ (search needs))
 
 pub row-of-spec : {M : Type 1} → statement M
-row-of-spec = tie.close (tie.spec rows-requires row-in-requires returns)
+row-of-spec = tie.close (tie.spec (search needs) (search needs) returns)

@@ -9,15 +9,6 @@ returns : tie.Need-returns
 unfolding apartOf
 returns c = rw (le-ltb _ _ (c .if1 .taken))
 
-cast-top : tie.Need-cast-top
-cast-top c = search needs
-
-class-of-requires : tie.Need-class-of-requires
-class-of-requires c κs = search needs
-
-is-listed-requires : tie.Need-is-listed-requires
-is-listed-requires c κs = search needs
-
 returns-2 : tie.Need-returns-2
 unfolding apartOf
 returns-2 c =
@@ -28,15 +19,6 @@ returns-2 c =
       ← c .before .is-listed .ensures,
       not-true (c .before .is-listed .result) (c .if2 .taken),
     )
-
-code-in-requires : tie.Need-code-in-requires
-code-in-requires c κs = search needs
-
-operands-in-requires : tie.Need-operands-in-requires
-operands-in-requires c κs = search needs
-
-cast-t14 : tie.Need-cast-t14
-cast-t14 c = search needs
 
 returns-3 : tie.Need-returns-3
 unfolding apartOf fieldsIn
@@ -57,11 +39,7 @@ taken-apart-spec =
     tie.close
     (tie.spec
     returns
-    cast-top
-    class-of-requires
-    is-listed-requires
+    (search needs) (search needs) (search needs)
     returns-2
-    code-in-requires
-    operands-in-requires
-    cast-t14
+    (search needs) (search needs) (search needs)
     returns-3)

@@ -9,12 +9,9 @@ returns : tie.Need-returns
 unfolding afterInput
 returns c = rw (eq-eqb _ _ (c .if1 .taken))
 
-lines-requires : tie.Need-lines-requires
-lines-requires c κs = search needs
-
 returns-2 : tie.Need-returns-2
 unfolding afterInput
-returns-2 c = rw (ne-eqb _ _ (c .before .if1 .left), c .lines .ensures)
+returns-2 c = rw (ne-eqb _ _ (c .before .if1 .left), c .bus-with .ensures)
 
 pub after-input-spec : {M : Type 1} → statement M
-after-input-spec = tie.close (tie.spec returns lines-requires returns-2)
+after-input-spec = tie.close (tie.spec returns (search needs) returns-2)

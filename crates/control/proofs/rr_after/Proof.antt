@@ -4,9 +4,6 @@ use borrow.Author.Needs.{needs}
 use Rattle.control.proofs.rr_after.Statement.{statement}
 use Rattle.control.proofs.rr_after.Tie as tie
 
-plus-one-requires : tie.Need-plus-one-requires
-plus-one-requires c κs = search needs
-
 returns : tie.Need-returns
 unfolding rrOf
 returns c = rw (c .before .if1 .taken, c .plus-one .ensures)
@@ -16,4 +13,4 @@ unfolding rrOf
 returns-2 c = rw (c .if1 .left)
 
 pub rr-after-spec : {M : Type 1} → statement M
-rr-after-spec = tie.close (tie.spec plus-one-requires returns returns-2)
+rr-after-spec = tie.close (tie.spec (search needs) returns returns-2)

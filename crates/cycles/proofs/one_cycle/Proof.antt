@@ -4,15 +4,9 @@ use borrow.Author.Needs.{needs}
 use Rattle.cycles.proofs.one_cycle.Statement.{statement}
 use Rattle.cycles.proofs.one_cycle.Tie as tie
 
-step-requires : tie.Need-step-requires
-step-requires c κs = search needs
-
-after-byte-requires : tie.Need-after-byte-requires
-after-byte-requires c κs = search needs
-
 returns : tie.Need-returns
 unfolding oneCycleOf
 returns c = rw (c .after-byte .ensures, ← c .before .step .ensures)
 
 pub one-cycle-spec : {M : Type 1} → statement M
-one-cycle-spec = tie.close (tie.spec step-requires after-byte-requires returns)
+one-cycle-spec = tie.close (tie.spec (search needs) (search needs) returns)

@@ -1,15 +1,16 @@
 -- `deck::every_quad` meets its contract: the invariant is that the elements passed hold. Assumes nothing.
 use native.Mathlib.Omega.{arith}
-use mathlib.Core.Path.{_≡_, sym}
+use mathlib.Core.Path.{_≡_, refl, sym}
 use mathlib.Core.Bool.{Bool, true, _&&_}
 use mathlib.Core.List.{List}
 use Prim.Native.Nat.{ℕ, _+_, _*_, _/_, _-_, _≤_, zero-le}
 use borrow.Author.Tests.{not-true, not-false}
 use lib.Dec.{leb}
+use Rattle.choose.specs.Below.{allBelow}
+use Rattle.choose.proofs.Table.{all-more, all-fails}
 use lib.ListN.{length}
 use Rattle.numbers.specs.Numbers.{byteAt}
-use Rattle.deck.specs.Ranges.{every, everyQuad}
-use Rattle.deck.proofs.Every.{every-none, every-more, every-fails}
+use Rattle.deck.specs.Ranges.{everyQuad}
 use Rattle.deck.proofs.every_quad.Statement.{statement}
 use Rattle.deck.proofs.every_quad.Tie as tie
 
@@ -18,24 +19,24 @@ abbrev quad : List ℕ → ℕ → ℕ → ℕ → Bool
 quad s third fourth i = leb (byteAt s (i * 4 + 2)) third && leb (byteAt s (i * 4 + 3)) fourth
 
 abbrev Inv-loop : tie.InvT-loop
-Inv-loop part third fourth n i₀ i = (i ≤ n) × (every (quad part third fourth) i ≡ true)
+Inv-loop part third fourth n i₀ i = (i ≤ n) × (allBelow i (quad part third fourth) ≡ true)
 
 abbrev μ-loop : tie.MeasureT-loop
 μ-loop part third fourth n i₀ i = n - i
 
 loop-holds : tie.Need-loop-holds Inv-loop μ-loop
-loop-holds c = (zero-le, every-none (quad (c .args .part .now) (c .args .third) (c .args .fourth)))
+loop-holds c = (zero-le, refl)
 
 returns : tie.Need-returns Inv-loop μ-loop
 unfolding everyQuad
 returns c =
     let args = c .before .before .before .before .before .args in
-    sym (every-fails (quad (args .part .now) (args .third) (args .fourth)) _ (c .before .before .before .before .loop .i) (c .before .before .before .loop-test .taken) (not-true _ (c .if1 .taken)))
+    sym (all-fails (quad (args .part .now) (args .third) (args .fourth)) _ (c .before .before .before .before .loop .i) (c .before .before .before .loop-test .taken) (not-true _ (c .if1 .taken)))
 
 loop-again : tie.Need-loop-again Inv-loop μ-loop
 loop-again c =
     let args = c .before .before .before .before .before .args in
-    (omega arith, every-more (quad (args .part .now) (args .third) (args .fourth)) (c .before .before .before .before .loop .i) (c .before .before .before .before .loop .inv .1) (not-false _ (c .if1 .left)))
+    (omega arith, all-more (quad (args .part .now) (args .third) (args .fourth)) (c .before .before .before .before .loop .i) (c .before .before .before .before .loop .inv .1) (not-false _ (c .if1 .left)))
 
 returns-2 : tie.Need-returns-2 Inv-loop μ-loop
 unfolding everyQuad

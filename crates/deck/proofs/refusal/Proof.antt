@@ -5,7 +5,7 @@ use borrow.Author.Tests.{not-true, not-false}
 use lib.Dec.{eqb}
 use Rattle.state_bytes.specs.Range.{stateInRange}
 use Rattle.deck.specs.Sections.{wholeOf, wordsPart, rowsPart, statePart, samplesPart}
-use Rattle.deck.specs.Ranges.{wordsInRange, rowsPartInRange, samplesInRange, placesEnough, refusalOf}
+use Rattle.deck.specs.Ranges.{wordsInRange, rowsPartInRange, samplesInRange, placesEnough, deckRefusalOf}
 use borrow.Author.Needs.{needs}
 use Rattle.deck.proofs.refusal.Statement.{statement}
 use Rattle.deck.proofs.refusal.Tie as tie
@@ -41,26 +41,26 @@ rows-hold : (c : tie.Else4) → rowsPartInRange (rowsPart (c .before .before .be
 rows-hold c = rows-is (c .before) ∙ not-false _ (c .if4 .left)
 
 returns : tie.Need-returns
-unfolding refusalOf
+unfolding deckRefusalOf
 returns c = rw (whole-is (c .before) ∙ not-true _ (c .if1 .taken))
 
 returns-2 : tie.Need-returns-2
-unfolding refusalOf
+unfolding deckRefusalOf
 returns-2 c = rw (whole-holds (c .before .before .before), state-is (c .before) ∙ not-true _ (c .if2 .taken))
 
 returns-3 : tie.Need-returns-3
-unfolding refusalOf
+unfolding deckRefusalOf
 returns-3 c = rw (whole-holds (c .before .before .before .before .before .before), state-holds (c .before .before .before), words-is (c .before) ∙ not-true _ (c .if3 .taken))
 
 returns-4 : tie.Need-returns-4
-unfolding refusalOf
+unfolding deckRefusalOf
 returns-4 c =
     let three = c .before .before .before in
     let two = three .before .before .before in
     rw (whole-holds (two .before .before .before), state-holds two, words-hold three, rows-is (c .before) ∙ not-true _ (c .if4 .taken))
 
 returns-5 : tie.Need-returns-5
-unfolding refusalOf
+unfolding deckRefusalOf
 returns-5 c =
     let four = c .before .before .before in
     let three = four .before .before .before in
@@ -68,7 +68,7 @@ returns-5 c =
     rw (whole-holds (two .before .before .before), state-holds two, words-hold three, rows-hold four, samples-is (c .before) ∙ not-true _ (c .if5 .taken))
 
 returns-6 : tie.Need-returns-6
-unfolding refusalOf
+unfolding deckRefusalOf
 returns-6 c =
     let four = c .before .before .before in
     let three = four .before .before .before in
@@ -79,18 +79,14 @@ pub refusal-spec : {M : Type 1} → statement M
 refusal-spec =
     tie.close
     (tie.spec
-    (λ c κs. search needs)
+    (search needs)
     returns
-    (λ c κs. search needs)
-    (λ c κs. search needs)
+    (search needs) (search needs)
     returns-2
-    (λ c κs. search needs)
-    (λ c κs. search needs)
+    (search needs) (search needs)
     returns-3
-    (λ c κs. search needs)
-    (λ c κs. search needs)
+    (search needs) (search needs)
     returns-4
-    (λ c κs. search needs)
-    (λ c κs. search needs)
+    (search needs) (search needs)
     returns-5
     returns-6)

@@ -1,26 +1,28 @@
 -- `deck::rows_in_range` meets its contract: the invariant is that the rows passed hold. Assumes nothing.
 use native.Mathlib.Omega.{arith}
 use borrow.Author.Needs.{needs}
-use mathlib.Core.Path.{_≡_, sym, ap, _∙_}
+use mathlib.Core.Path.{_≡_, refl, sym, ap, _∙_}
 use mathlib.Core.Bool.{Bool, true}
 use mathlib.Core.List.{List}
 use Prim.Native.Nat.{ℕ, _*_, _/_, _-_, _≤_, zero-le}
 use borrow.Author.Tests.{not-true, not-false, le-leb, lt-leb}
+use Rattle.choose.specs.Below.{allBelow}
+use Rattle.choose.proofs.Table.{all-more, all-fails}
 use lib.ListN.{length, getD}
-use Rattle.rows.specs.Section.{emptyRow, rowOf}
+use Rattle.rows.specs.Section.{emptyRow, rowFrom}
 use Rattle.rows.specs.declared.Row.{Row}
 use Rattle.rows.specs.Range.{rowInRange}
-use Rattle.deck.specs.Ranges.{every, rowsPartInRange}
-use Rattle.deck.proofs.Every.{every-none, every-more, every-fails, rows-every, table-row}
+use Rattle.deck.specs.Ranges.{rowsPartInRange}
+use Rattle.deck.proofs.Every.{rows-every, table-row}
 use Rattle.deck.proofs.rows_in_range.Statement.{statement}
 use Rattle.deck.proofs.rows_in_range.Tie as tie
 
 -- the test of row i
 abbrev row : List ℕ → ℕ → Bool
-row s i = rowInRange (rowOf s (i * 16))
+row s i = rowInRange (rowFrom s (i * 16))
 
 abbrev Inv-loop : tie.InvT-loop
-Inv-loop part n table i₀ i = (i ≤ n) × (every (row part) i ≡ true)
+Inv-loop part n table i₀ i = (i ≤ n) × (allBelow i (row part) ≡ true)
 
 abbrev μ-loop : tie.MeasureT-loop
 μ-loop part n table i₀ i = n - i
@@ -39,7 +41,7 @@ unfolding rowsPartInRange
 returns c = rw (lt-leb _ 128 (c .if1 .taken))
 
 loop-holds : tie.Need-loop-holds Inv-loop μ-loop
-loop-holds c = (zero-le, every-none (row (c .before .before .before .args .part .now)))
+loop-holds c = (zero-le, refl)
 
 returns-2 : tie.Need-returns-2 Inv-loop μ-loop
 unfolding rowsPartInRange
@@ -47,12 +49,12 @@ returns-2 c =
     let at = c .before .before .before .before in
     let start = at .before .before .before .before in
     rw (le-leb _ 128 (at .before .before .if1 .left), rows-every (start .args .part .now) (length (start .args .part .now) / 16))
-    (sym (every-fails (row (start .args .part .now)) _ (at .loop .i) (c .before .before .before .loop-test .taken) (sym (passed (c .before)) ∙ not-true _ (c .if2 .taken))))
+    (sym (all-fails (row (start .args .part .now)) _ (at .loop .i) (c .before .before .before .loop-test .taken) (sym (passed (c .before)) ∙ not-true _ (c .if2 .taken))))
 
 loop-again : tie.Need-loop-again Inv-loop μ-loop
 loop-again c =
     let at = c .before .before .before .before in
-    (omega arith, every-more (row (at .before .before .before .before .args .part .now)) (at .loop .i) (at .loop .inv .1) (sym (passed (c .before)) ∙ not-false _ (c .if2 .left)))
+    (omega arith, all-more (row (at .before .before .before .before .args .part .now)) (at .loop .i) (at .loop .inv .1) (sym (passed (c .before)) ∙ not-false _ (c .if2 .left)))
 
 returns-3 : tie.Need-returns-3 Inv-loop μ-loop
 unfolding rowsPartInRange
@@ -68,11 +70,9 @@ rows-in-range-spec =
     Inv-loop
     μ-loop
     returns
-    (λ c κs. search needs)
+    (search needs)
     loop-holds
-    (λ c. search needs)
-    (λ c. search needs)
-    (λ c κs. search needs)
+    (search needs) (search needs) (search needs)
     returns-2
     (λ c. omega arith)
     (λ c. omega arith)

@@ -9,4 +9,4 @@ unfolding samplesInRange everyQuad
 returns c = rw (c .every-quad .ensures)
 
 pub samples-in-range-spec : {M : Type 1} → statement M
-samples-in-range-spec = tie.close (tie.spec (λ c κs. search needs) returns)
+samples-in-range-spec = tie.close (tie.spec (search needs) returns)

@@ -3,21 +3,21 @@ use native.Mathlib.Omega.{arith}
 use mathlib.Core.Path.{_≡_, sym, _∙_}
 use Prim.Native.Nat.{_+_, _-_, _*_, _≤_}
 use lib.ListN.{length}
-use Rattle.deck.specs.Sections.{afterOf, sectionOf}
-use Rattle.deck.proofs.Laws.{after-ge}
+use Rattle.deck.specs.Sections.{sectionEnd, sectionOf}
+use Rattle.deck.proofs.Laws.{section-end-ge}
 use borrow.Author.Needs.{needs}
 use Rattle.deck.proofs.section.Statement.{statement}
 use Rattle.deck.proofs.section.Tie as tie
 
-within : (c : tie.Then1) → afterOf (c .before .before .before .args .deck .now) (c .before .before .before .args .a) (c .before .before .before .args .size) ≤ length (c .before .before .before .args .deck .now)
+within : (c : tie.Then1) → sectionEnd (c .before .before .before .args .deck .now) (c .before .before .before .args .a) (c .before .before .before .args .size) ≤ length (c .before .before .before .args .deck .now)
 within c = c .before .before .before .pre (sym (c .before .whole .ensures) ∙ c .if1 .taken)
 
 room : (c : tie.After-pair-at) → c .before .before .before .before .args .a + 2 + c .before .before .before .before .args .size * c .pair-at .result ≤ length (c .before .before .before .before .args .deck .now)
-unfolding afterOf
+unfolding sectionEnd
 room c = rw (c .pair-at .ensures) (within (c .before))
 
 add-from : tie.Need-add-from
-add-from c = omega (arith, after-ge (c .before .before .before .args .deck .now) (c .before .before .before .args .a) (c .before .before .before .args .size), within c)
+add-from c = omega (arith, section-end-ge (c .before .before .before .args .deck .now) (c .before .before .before .args .a) (c .before .before .before .args .size), within c)
 
 mul-end : tie.Need-mul-end
 mul-end c = omega (arith, room c)
@@ -44,17 +44,13 @@ pub section-spec : {M : Type 1} → statement M
 section-spec =
     tie.close
     (tie.spec
-    (λ c κs. search needs)
+    (search needs)
     add-from
-    (λ c κs. search needs)
-    (λ c. search needs)
+    (search needs) (search needs)
     mul-end
     add-end
-    (λ c. search needs)
-    (λ c. search needs)
+    (search needs) (search needs)
     part-result-end
     returns
-    (λ c. search needs)
-    (λ c. search needs)
-    (λ c. search needs)
+    (search needs) (search needs) (search needs)
     returns-2)

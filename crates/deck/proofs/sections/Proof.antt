@@ -1,4 +1,4 @@
--- `deck::sections` meets its contract, by what `after` ensures of each section. Assumes nothing.
+-- `deck::sections` meets its contract, by what `section_end` ensures of each section. Assumes nothing.
 use Rattle.deck.specs.Sections.{layoutOf}
 use borrow.Author.Needs.{needs}
 use Rattle.deck.proofs.sections.Statement.{statement}
@@ -6,8 +6,8 @@ use Rattle.deck.proofs.sections.Tie as tie
 
 returns : tie.Need-returns
 unfolding layoutOf
-returns c = rw (c .after4 .ensures .0, c .before .after3 .ensures .0, c .before .before .after2 .ensures .0, c .before .before .before .after .ensures .0)
+returns c = rw (c .section-end4 .ensures .0, c .before .section-end3 .ensures .0, c .before .before .section-end2 .ensures .0, c .before .before .before .section-end .ensures .0)
 
 pub sections-spec : {M : Type 1} → statement M
 sections-spec =
-    tie.close (tie.spec (λ c κs. search needs) (λ c κs. search needs) (λ c κs. search needs) (λ c κs. search needs) returns)
+    tie.close (tie.spec (search needs) (search needs) (search needs) (search needs) returns)

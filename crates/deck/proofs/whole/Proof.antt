@@ -9,4 +9,4 @@ unfolding wholeOf
 returns c = rw (c .before .pair-at .ensures, c .before .before .sections .ensures)
 
 pub whole-spec : {M : Type 1} → statement M
-whole-spec = tie.close (tie.spec (λ c κs. search needs) (λ c κs. search needs) returns)
+whole-spec = tie.close (tie.spec (search needs) (search needs) returns)

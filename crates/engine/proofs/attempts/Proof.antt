@@ -23,35 +23,22 @@ loop-holds c =
     let a = c .before .before .before .args in
     (search needs, refl, search needs, begins (a .words .now) (take (a .m) (a .table)) (a .samples .now) (a .n) 0 (a .file .now) (a .first) 0 (a .requests .now) refl)
 
-sample-requires : tie.Need-sample-requires Inv-loop μ-loop
-sample-requires c κs = search needs
-
-attempt-requires : tie.Need-attempt-requires Inv-loop μ-loop
-attempt-requires c κs = search needs
-
 same-length : tie.Need-same-length Inv-loop μ-loop
-same-length c = c .before .before .before .before .before .loop .inv .1
+same-length c = c .before .before .before .before .before .before .loop .inv .1
 
 returns : tie.Need-returns Inv-loop μ-loop
 returns c =
-    let a = c .before .before .before .before .before .before .before .before .before .args in
-    let l = c .before .before .before .before .before .loop in
-    let o = c .before .attempt in (
-      omega (arith, l .inv .0),
+    let refused = c .before in
+    let a = refused .before .before .before .before .before .before .before .before .before .args in
+    let l = refused .before .before .before .before .before .loop in
+    let o = refused .before .attempt in
+    rw (c .leaves .ensures) (
+      l .inv .0,
       sym
           (stops (a .words .now) (take (a .m) (a .table)) (a .samples .now) (a .n) (l .i) (l .file) (l .core) (l .microcycles) (l .requests)
-          (ended (o .last .1 .1 .1 .0) (o .result)) (rw (← c .before .before .before .sample .ensures) (o .ensures)) (c .before .before .before .before .loop-test .taken) (c .if1 .taken))
+          (ended (o .last .1 .1 .1 .0) (o .result)) (rw (← refused .before .before .before .sample .ensures) (o .ensures)) (refused .before .before .before .before .loop-test .taken) (refused .if1 .taken))
           ∙ l .inv .3,
     )
-
-mul-put4 : tie.Need-mul-put4 Inv-loop μ-loop
-mul-put4 c = omega arith
-
-put4-requires : tie.Need-put4-requires Inv-loop μ-loop
-put4-requires c κs = omega arith
-
-cast-microcycles : tie.Need-cast-microcycles Inv-loop μ-loop
-cast-microcycles c = search needs
 
 add-microcycles : tie.Need-add-microcycles Inv-loop μ-loop
 add-microcycles c =
@@ -81,14 +68,15 @@ loop-again c =
     )
 
 same-length-2 : tie.Need-same-length-2 Inv-loop μ-loop
-same-length-2 c = c .before .loop .inv .1
+same-length-2 c = c .before .before .loop .inv .1
 
 returns-2 : tie.Need-returns-2 Inv-loop μ-loop
 returns-2 c =
-    let a = c .before .before .before .before .before .args in
-    let l = c .before .loop in (
+    let a = c .before .before .before .before .before .before .args in
+    let l = c .before .before .loop in
+    rw (c .leaves2 .ensures) (
       l .inv .0,
-      sym (ends (a .words .now) (take (a .m) (a .table)) (a .samples .now) (a .n) (l .i) (l .file) (l .core) (l .microcycles) (l .requests) (c .loop-test .left))
+      sym (ends (a .words .now) (take (a .m) (a .table)) (a .samples .now) (a .n) (l .i) (l .file) (l .core) (l .microcycles) (l .requests) (c .before .loop-test .left))
           ∙ l .inv .3,
     )
 
@@ -99,16 +87,16 @@ attempts-spec =
     Inv-loop
     μ-loop
     loop-holds
-    sample-requires
-    attempt-requires
+    (search needs) (search needs) (search needs)
     same-length
     returns
-    mul-put4
-    put4-requires
-    cast-microcycles
+    (λ c. omega arith)
+    (λ c κs. omega arith)
+    (search needs)
     add-microcycles
     add-i
     loop-less
     loop-again
+    (search needs)
     same-length-2
     returns-2)

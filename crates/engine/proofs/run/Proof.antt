@@ -1,5 +1,5 @@
 -- `engine::run` meets its contract: a refusal, or the deck's run, by what each part ensures.
-use mathlib.Core.Path.{_≡_, _∙_, sym, ap}
+use mathlib.Core.Path.{_∙_, sym, ap}
 use native.Mathlib.Omega.{arith}
 use lib.ListN.{length}
 use mathlib.Core.List.{List}
@@ -10,50 +10,14 @@ use borrow.Author.Needs.{needs}
 use Rattle.engine.proofs.run.Statement.{statement}
 use Rattle.engine.proofs.run.Tie as tie
 
-refusal-requires : tie.Need-refusal-requires
-refusal-requires c κs = search needs
-
-cast-t17 : tie.Need-cast-t17
-cast-t17 c = search needs
-
 returns : tie.Need-returns
 returns c = rw (c .before .refusal .ensures) (refuses _ _ _ (λ z. c .if1 .taken (c .before .refusal .ensures ∙ z)))
-
-state-requires : tie.Need-state-requires
-state-requires c κs = search needs
-
-load-requires : tie.Need-load-requires
-load-requires c κs = search needs
-
-rows-requires : tie.Need-rows-requires
-rows-requires c κs = search needs
-
-load-requires-2 : tie.Need-load-requires-2
-load-requires-2 c κs = search needs
-
-samples-requires : tie.Need-samples-requires
-samples-requires c κs = search needs
-
-words-requires : tie.Need-words-requires
-words-requires c κs = search needs
 
 attempts-requires : tie.Need-attempts-requires
 attempts-requires c κs = rw (c .before .before .before .samples .ensures) (places _ _ _ (sym (c .before .before .before .before .before .before .before .before .before .before .refusal .ensures) ∙ c .before .before .before .before .before .before .before .before .before .if1 .left))
 
-store-requires : tie.Need-store-requires
-store-requires c κs = search needs
-
-cast-t28 : tie.Need-cast-t28
-cast-t28 c = search needs
-
 cast-t29 : tie.Need-cast-t29
 cast-t29 c = omega (arith, c .before .before .before .before .before .before .before .before .before .before .attempts .ensures .0, places _ _ _ (sym (c .before .before .before .before .before .before .before .before .before .before .before .before .before .before .before .before .before .before .before .before .before .refusal .ensures) ∙ c .before .before .before .before .before .before .before .before .before .before .before .before .before .before .before .before .before .before .before .before .if1 .left) .0, ap (λ (l : List ℕ). length l) (c .before .before .before .before .before .before .before .before .before .before .before .before .before .before .samples .ensures))
-
-same-length : tie.Need-same-length
-same-length c = search needs
-
-same-length-2 : tie.Need-same-length-2
-same-length-2 c = search needs
 
 returns-2 : tie.Need-returns-2
 returns-2 c =
@@ -69,19 +33,11 @@ pub run-spec : {M : Type 1} → statement M
 run-spec =
     tie.close
     (tie.spec
-    refusal-requires
-    cast-t17
+    (search needs) (search needs)
     returns
-    state-requires
-    load-requires
-    rows-requires
-    load-requires-2
-    samples-requires
-    words-requires
+    (search needs) (search needs) (search needs) (search needs) (search needs) (search needs)
     attempts-requires
-    store-requires
-    cast-t28
+    (search needs) (search needs)
     cast-t29
-    same-length
-    same-length-2
+    (search needs) (search needs)
     returns-2)

@@ -5,27 +5,13 @@ use borrow.Author.Needs.{needs}
 use Rattle.execute.proofs.access.Statement.{statement}
 use Rattle.execute.proofs.access.Tie as tie
 
-gain-requires : tie.Need-gain-requires
-gain-requires c κs = search needs
-
-does-requires : tie.Need-does-requires
-does-requires c κs = search needs
-
-one-cycle-requires : tie.Need-one-cycle-requires
-one-cycle-requires c κs = search needs
-
 returns : tie.Need-returns
 unfolding accessOf
-returns c = rw (eq-eqb _ _ (c .before .before .if1 .taken), ← c .before .before .before .before .gain .ensures, ← c .before .before .before .does .ensures) (c .one-cycle .ensures)
-
-two-cycles-requires : tie.Need-two-cycles-requires
-two-cycles-requires c κs = search needs
+returns c = rw (eq-eqb _ _ (c .before .before .if1 .taken), ← c .before .before .before .before .gain .ensures, ← c .before .before .before .plan-with .ensures) (c .one-cycle .ensures)
 
 returns-2 : tie.Need-returns-2
 unfolding accessOf
-returns-2 c = rw (ne-eqb _ _ (c .before .before .if1 .left), ← c .before .before .before .before .gain .ensures, ← c .before .before .before .does .ensures) (c .two-cycles .ensures)
+returns-2 c = rw (ne-eqb _ _ (c .before .before .if1 .left), ← c .before .before .before .before .gain .ensures, ← c .before .before .before .plan-with .ensures) (c .two-cycles .ensures)
 
 pub access-spec : {M : Type 1} → statement M
-access-spec =
-    tie.close
-    (tie.spec gain-requires does-requires one-cycle-requires returns two-cycles-requires returns-2)
+access-spec = tie.close (tie.spec (search needs) (search needs) (search needs) returns (search needs) returns-2)

@@ -1,5 +1,4 @@
 -- `execute::gain` meets its contract: by its test.
-use Rattle.execute.specs.Execute.{gainOf}
 use borrow.Author.Tests.{eq-eqb, ne-eqb}
 use Rattle.execute.proofs.gain.Statement.{statement}
 use Rattle.execute.proofs.gain.Tie as tie

@@ -4,9 +4,6 @@ use borrow.Author.Needs.{needs}
 use Rattle.execute.proofs.selected.Statement.{statement}
 use Rattle.execute.proofs.selected.Tie as tie
 
-upper-requires : tie.Need-upper-requires
-upper-requires c κs = search needs
-
 returns : tie.Need-returns
 unfolding selectedOf
 returns c = rw (← c .before .upper .ensures, c .if1 .taken)
@@ -16,4 +13,4 @@ unfolding selectedOf
 returns-2 c = rw (← c .before .upper .ensures, c .if1 .left)
 
 pub selected-spec : {M : Type 1} → statement M
-selected-spec = tie.close (tie.spec upper-requires returns returns-2)
+selected-spec = tie.close (tie.spec (search needs) returns returns-2)

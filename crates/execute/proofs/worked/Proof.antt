@@ -5,24 +5,9 @@ use borrow.Author.Needs.{needs}
 use Rattle.execute.proofs.worked.Statement.{statement}
 use Rattle.execute.proofs.worked.Tie as tie
 
-plan-requires : tie.Need-plan-requires
-plan-requires c κs = search needs
-
-one-cycle-requires : tie.Need-one-cycle-requires
-one-cycle-requires c κs = search needs
-
 returns : tie.Need-returns
 unfolding workedOf
 returns c = rw (eq-eqb _ _ (c .before .before .if1 .taken), ← c .before .before .before .plan .ensures) (c .one-cycle .ensures)
-
-high-requires : tie.Need-high-requires
-high-requires c κs = search needs
-
-high-requires-2 : tie.Need-high-requires-2
-high-requires-2 c κs = search needs
-
-two-cycles-requires : tie.Need-two-cycles-requires
-two-cycles-requires c κs = search needs
 
 returns-2 : tie.Need-returns-2
 unfolding workedOf
@@ -32,10 +17,7 @@ pub worked-spec : {M : Type 1} → statement M
 worked-spec =
     tie.close
     (tie.spec
-    plan-requires
-    one-cycle-requires
+    (search needs) (search needs)
     returns
-    high-requires
-    high-requires-2
-    two-cycles-requires
+    (search needs) (search needs) (search needs)
     returns-2)

@@ -9,4 +9,4 @@ returns-2 : tie.Need-returns-2
 returns-2 c = sym (byte-past (c .before .args .s .now) (c .before .args .a) (c .if1 .left))
 
 pub byte-at-spec : {M : Type 1} → statement M
-byte-at-spec = tie.close (tie.spec (λ c. search needs) (λ c. search needs) returns-2)
+byte-at-spec = tie.close (tie.spec (search needs) (search needs) returns-2)

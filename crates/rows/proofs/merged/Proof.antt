@@ -5,9 +5,6 @@ use Rattle.rows.specs.Scan.{mergedOf}
 use Rattle.rows.proofs.merged.Statement.{statement}
 use Rattle.rows.proofs.merged.Tie as tie
 
-matched-requires : tie.Need-matched-requires
-matched-requires c κs = search needs
-
 returns : tie.Need-returns
 unfolding mergedOf
 returns c = rw (sym (c .before .before .before .before .before .before .before .matched .ensures) ∙ c .before .before .before .before .before .before .if1 .taken)
@@ -17,4 +14,4 @@ unfolding mergedOf
 returns-2 c = rw (sym (c .before .matched .ensures) ∙ c .if1 .left)
 
 pub merged-spec : {M : Type 1} → statement M
-merged-spec = tie.close (tie.spec matched-requires returns returns-2)
+merged-spec = tie.close (tie.spec (search needs) returns returns-2)

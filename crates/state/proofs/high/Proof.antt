@@ -4,12 +4,9 @@ use borrow.Author.Needs.{needs}
 use Rattle.state.proofs.high.Statement.{statement}
 use Rattle.state.proofs.high.Tie as tie
 
-add-result : tie.Need-add-result
-add-result c = search needs
-
 returns : tie.Need-returns
 unfolding highOf
 returns c = search needs
 
 pub high-spec : {M : Type 1} → statement M
-high-spec = tie.close (tie.spec add-result returns)
+high-spec = tie.close (tie.spec (search needs) returns)

@@ -4,15 +4,9 @@ use borrow.Author.Needs.{needs}
 use Rattle.state.proofs.write.Statement.{statement}
 use Rattle.state.proofs.write.Tie as tie
 
-slot-requires : tie.Need-slot-requires
-slot-requires c κs = search needs
-
-element-write-file : tie.Need-element-write-file
-element-write-file c = search needs
-
 returns : tie.Need-returns
 unfolding writtenOf
 returns c = rw (c .slot .ensures .0)
 
 pub write-spec : {M : Type 1} → statement M
-write-spec = tie.close (tie.spec slot-requires element-write-file returns)
+write-spec = tie.close (tie.spec (search needs) (search needs) returns)

@@ -9,4 +9,4 @@ unfolding addressOf
 returns c = rw (c .before .before .pair-at .ensures, c .before .pair-at2 .ensures, c .byte-at .ensures)
 
 pub address-in-spec : {M : Type 1} → statement M
-address-in-spec = tie.close (tie.spec (λ c κs. search needs) (λ c κs. search needs) (λ c κs. search needs) returns)
+address-in-spec = tie.close (tie.spec (search needs) (search needs) (search needs) returns)

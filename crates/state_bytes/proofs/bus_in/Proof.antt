@@ -9,4 +9,4 @@ unfolding busOf
 returns c = rw (c .before .byte-at .ensures, c .pair-at .ensures)
 
 pub bus-in-spec : {M : Type 1} → statement M
-bus-in-spec = tie.close (tie.spec (λ c κs. search needs) (λ c κs. search needs) returns)
+bus-in-spec = tie.close (tie.spec (search needs) (search needs) returns)

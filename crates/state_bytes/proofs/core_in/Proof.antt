@@ -9,12 +9,4 @@ unfolding coreOf
 returns c = rw (c .before .before .before .flags-in .ensures, c .before .before .before .before .byte-at .ensures, c .before .before .address-in .ensures, c .before .bus-in .ensures, c .latches-in .ensures)
 
 pub core-in-spec : {M : Type 1} → statement M
-core-in-spec =
-    tie.close
-    (tie.spec
-    (λ c κs. search needs)
-    (λ c κs. search needs)
-    (λ c κs. search needs)
-    (λ c κs. search needs)
-    (λ c κs. search needs)
-    returns)
+core-in-spec = tie.close (tie.spec (search needs) (search needs) (search needs) (search needs) (search needs) returns)

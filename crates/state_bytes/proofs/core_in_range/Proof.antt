@@ -9,5 +9,4 @@ unfolding coreInRange
 returns c = rw (c .before .address-in-range .ensures, c .latches-in-range .ensures)
 
 pub core-in-range-spec : {M : Type 1} → statement M
-core-in-range-spec =
-    tie.close (tie.spec (λ c κs. search needs) (λ c κs. search needs) returns)
+core-in-range-spec = tie.close (tie.spec (search needs) (search needs) returns)

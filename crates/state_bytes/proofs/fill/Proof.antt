@@ -48,7 +48,7 @@ fill-spec =
     Inv-loop
     μ-loop
     loop-holds
-    (λ c κs. search needs)
+    (search needs)
     (λ c. omega arith)
     slice-write-dst
     (λ c. omega arith)

@@ -9,5 +9,4 @@ unfolding stateInRange
 returns c = rw (c .before .before .byte-at .ensures, c .core-in-range .ensures, c .before .core-in .ensures)
 
 pub in-range-spec : {M : Type 1} → statement M
-in-range-spec =
-    tie.close (tie.spec (λ c κs. search needs) (λ c κs. search needs) (λ c κs. search needs) returns)
+in-range-spec = tie.close (tie.spec (search needs) (search needs) (search needs) returns)

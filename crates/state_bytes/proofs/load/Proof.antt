@@ -10,4 +10,4 @@ returns : tie.Need-returns
 returns c = record { core = c .core-in .ensures; file = c .before .fill .ensures ∙ loaded _ (c .before .before .before .before .args .s .now) (omega arith) }
 
 pub load-spec : {M : Type 1} → statement M
-load-spec = tie.close (tie.spec (λ c κs. search needs) (λ c κs. search needs) returns)
+load-spec = tie.close (tie.spec (search needs) (search needs) returns)
