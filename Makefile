@@ -1,5 +1,7 @@
-# make run: the bench host on every example, or on DECKS="mine.deck ...". make test: the gate. make bench: engine against interpreter.
-.PHONY: run test bench
+# make run: the bench host on every example, or on DECKS="mine.deck ...". make test: the gate.
+# make vectors, make requirements: write vectors/ and docs/REQUIREMENTS.md anew. make bench: engine against interpreter.
+# make fuzz: the fuzzer for ten minutes, or for FOR=SECONDS.
+.PHONY: run test vectors requirements bench fuzz
 
 run:
 	@host/run $(DECKS)
@@ -7,5 +9,14 @@ run:
 test:
 	@.ci/run
 
+vectors:
+	@tests/vectors/write vectors
+
+requirements:
+	@tests/requirements/write docs/REQUIREMENTS.md
+
 bench:
 	@tests/compare/bench
+
+fuzz:
+	@tests/fuzz/run $(or $(FOR),600) $$(date +%s)

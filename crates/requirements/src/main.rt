@@ -1,0 +1,266 @@
+// Writes docs/REQUIREMENTS.md: one requirement for each listed instruction, from the proved table. Standard input gives
+// the number of vectors of each top byte, 256 bytes.
+use code::Apart;
+use code::Class;
+use code::Row;
+use libc::STDIN_FILENO;
+use libc::STDOUT_FILENO;
+
+fn say(text: &[u8]) {
+    io::write_all(STDOUT_FILENO, text);
+}
+
+fn last_digit(n: u8) {
+    let d = n % 0x10;
+    if d < 10 {
+        say(&[b'0' + d]);
+    } else {
+        say(&[b'A' + (d - 10)]);
+    }
+}
+
+fn hex(top: u8) {
+    last_digit(top / 0x10);
+    last_digit(top);
+}
+
+fn number(n: u8) {
+    io::print_decimal(STDOUT_FILENO, n as u64);
+}
+
+// The last of some letters; a name has no space between two.
+fn letter(letters: u32) {
+    let last = (letters % 0x100) as u8;
+    if last != b' ' {
+        say(&[last]);
+    }
+}
+
+fn mnemonic(top: u8) {
+    let name = names::mnemonic_of(top);
+    letter(name / 0x100_0000);
+    letter(name / 0x1_0000);
+    letter(name / 0x100);
+    letter(name);
+}
+
+// JMP and RFS have 8 codes and each literal instruction 16, "when literals and jump addresses are not told apart".
+fn codes(top: u8, class: Class) {
+    hex(top);
+    match class {
+        Class::Jump => {
+            say(b"-");
+            hex(top | 0x07);
+        }
+        Class::Literal => {
+            say(b"-");
+            hex(top | 0x0F);
+        }
+        _ => {}
+    }
+}
+
+fn format(class: Class) {
+    match class {
+        Class::Unlisted => say(b"none"),
+        Class::Jump => say(b"jump"),
+        Class::Conditional => say(b"conditional jump"),
+        Class::Literal => say(b"literal"),
+        Class::Register => say(b"register"),
+    }
+}
+
+fn flag(set: u8, bit: u8, name: &[u8]) {
+    if set & bit != 0 {
+        say(name);
+    }
+}
+
+fn status(set: u8) {
+    if set & 0x0F == 0 {
+        say(b"none ");
+    }
+    flag(set, 0x08, b"NB ");
+    flag(set, 0x04, b"ZB ");
+    flag(set, 0x02, b"C4 ");
+    flag(set, 0x01, b"C8 ");
+}
+
+fn condition(set: u8) {
+    if set & 0xF0 == 0 {
+        say(b"none ");
+    }
+    flag(set, 0x80, b"N ");
+    flag(set, 0x40, b"Z ");
+    flag(set, 0x20, b"V ");
+    flag(set, 0x10, b"C ");
+}
+
+fn stores(yes: bool) {
+    if yes {
+        say(b"yes");
+    } else {
+        say(b"no");
+    }
+}
+
+fn waits(kind: u8) {
+    match kind {
+        0 => say(b"never"),
+        1 => say(b"REPLY or BUSY high"),
+        _ => say(b"REPLY low"),
+    }
+}
+
+fn refusals(pairs: u8, options: u8) {
+    if (pairs == 0) & (options == 15) {
+        say(b"none ");
+    }
+    match pairs {
+        0 => {}
+        1 => say(b"7: a odd. "),
+        _ => say(b"7: a or b odd. "),
+    }
+    if options < 15 {
+        say(b"8: b over ");
+        number(options);
+        say(b". ");
+    }
+}
+
+fn facts(row: Row) {
+    number(row.cycles);
+    say(b" | ");
+    status(row.flags);
+    say(b"| ");
+    condition(row.flags);
+    say(b"| ");
+    stores(row.stores);
+    say(b" | ");
+    waits(row.waits);
+    say(b" | ");
+    refusals(row.pairs, row.options);
+}
+
+fn key(top: u8) {
+    hex(top);
+    say(b"-");
+    match code::class_of(top) {
+        Class::Unlisted => say(b"unlisted"),
+        _ => mnemonic(top),
+    }
+}
+
+// The last cell: how many vectors, and where they are.
+fn checked(top: u8, vectors: u8) {
+    say(b"| [");
+    number(vectors);
+    say(b"](../vectors/");
+    key(top);
+    say(b".txt) |\n");
+}
+
+// Designators 0 and the first option are refused by 6 only: that is CAD, which never completes.
+fn requirement(top: u8, row: Row, refusal: u8, vectors: u8) {
+    let class = row.class;
+    say(b"| ");
+    key(top);
+    say(b" | ");
+    codes(top, class);
+    say(b" | ");
+    format(class);
+    say(b" | ");
+    match refusal {
+        0 => facts(row),
+        _ => say(b"| | | | | 6: the engine always refuses it. "),
+    }
+    checked(top, vectors);
+}
+
+fn unlisted(top: u8, vectors: u8) {
+    say(b"| ");
+    key(top);
+    say(b" | ");
+    hex(top);
+    say(b" | 6: code unlisted. ");
+    checked(top, vectors);
+}
+
+// A line at an instruction's first top byte, or at an unlisted one, where it is of the table asked for.
+fn line(top: u8, listed: bool, vectors: u8) {
+    match code::taken_apart(top as u32 * 0x100) {
+        Apart::Word(f) => {
+            if listed & (f.code == top) {
+                let operands = f.operands;
+                let refusal = checks::refusal(top, operands);
+                requirement(top, code::row_of(top), refusal, vectors);
+            }
+        }
+        Apart::OutOfRange => {}
+        Apart::Unlisted => {
+            if !listed {
+                unlisted(top, vectors);
+            }
+        }
+    }
+}
+
+fn lines(listed: bool, vectors: &[u8; 256]) {
+    let mut top = 0;
+    while top < 0x100 {
+        line(top as u8, listed, vectors[top]);
+        top += 1;
+    }
+}
+
+fn columns() {
+    say(
+        b"- **Key**: top byte and mnemonic as 01 corrects it (B6 and B7 are CW, BC to BF DB1 and DW1). It is no running number: it lasts.\n",
+    );
+    say(b"- **Codes**: the top bytes, bits 15-8 of the word.\n");
+    say(
+        b"- **Format**: a jump has its address in bits 10-0, a conditional jump in bits 7-0, a literal instruction the literal in bits 11-4\n",
+    );
+    say(b"  and register a in bits 3-0, a register instruction b in bits 7-4 and a in bits 3-0.\n");
+    say(
+        b"- **Microcycles** of a completed attempt. A wait, RESET and COMPUTE low cost 1, a refusal none.\n",
+    );
+    say(
+        b"- **Status**, **Condition**: the flags that it may write. It leaves the others as they were; a failed condition writes none.\n",
+    );
+    say(b"- **Register**: whether it writes one. The others of the 26 stay as they were.\n");
+    say(b"- **Waits** while these lines are so.\n");
+    say(
+        b"- **Refusals** that can come, with their cause. An attempt that fetches is refused with 5 where LC has no word.\n",
+    );
+    say(b"- **Vectors** that check it: how many, and the file.\n");
+}
+
+fn document(vectors: &[u8; 256]) {
+    say(b"# Requirements\n\n");
+    say(
+        b"One requirement for each of the 150 listed instructions, then one for each of the 17 unlisted codes. The program `requirements`\n",
+    );
+    say(
+        b"writes this page from the table that the engine is proved to follow (`make requirements`); no line of a table is typed.\n\n",
+    );
+    columns();
+    say(
+        b"\n| Key | Codes | Format | Microcycles | Status | Condition | Register | Waits | Refusals | Vectors |\n",
+    );
+    say(b"|---|---|---|---|---|---|---|---|---|---|\n");
+    lines(true, vectors);
+    say(b"\n## Unlisted codes\n\n");
+    say(b"| Key | Code | Refusals | Vectors |\n|---|---|---|---|\n");
+    lines(false, vectors);
+}
+
+fn main() {
+    let mut vectors = [0u8; 256];
+    let n = io::read_full(STDIN_FILENO, &mut vectors);
+    if n == 256 {
+        document(&vectors);
+    } else {
+        say(b"standard input has to be 256 bytes: the number of vectors of each top byte\n");
+    }
+}

@@ -1,0 +1,84 @@
+//! What attempts of the interpreter show of some top bytes.
+
+use interpreter::decks::Random;
+use interpreter::{attempt, Outcome, Sample, State};
+use std::ops::RangeInclusive;
+
+/// Gathered over every low byte and many states.
+#[derive(Debug)]
+pub struct Observed {
+    /// Of each low byte: the refusal, or 0.
+    pub refusals: [u8; 256],
+    /// Each once, of completed attempts.
+    pub microcycles: Vec<u32>,
+    /// Those that changed.
+    pub flags: u8,
+    /// Whether one changed.
+    pub registers: bool,
+    /// With REPLY and BUSY low, REPLY high, BUSY high, both high.
+    pub waits: [bool; 4],
+    /// With the same lines.
+    pub completes: [bool; 4],
+}
+
+/// For each low byte and each pair of REPLY and BUSY.
+const STATES: u64 = 40;
+
+const WAIT: u32 = 10;
+
+impl Observed {
+    pub fn of(codes: RangeInclusive<u8>) -> Self {
+        let mut seen = Self {
+            refusals: [0; 256],
+            microcycles: Vec::new(),
+            flags: 0,
+            registers: false,
+            waits: [false; 4],
+            completes: [false; 4],
+        };
+        for top in codes {
+            let random = &mut Random::new(u64::from(top));
+            for low in 0..256 {
+                for lines in (0..STATES).flat_map(|_| 0..4) {
+                    seen.attempt(u32::from(top) << 8 | low, lines, random);
+                }
+            }
+        }
+        seen
+    }
+
+    fn attempt(&mut self, word: u32, lines: usize, random: &mut Random) {
+        let mut state = state(random);
+        let before = state.clone();
+        let sample = Sample {
+            data: random.telling_word(),
+            reply: lines & 1 != 0,
+            busy: lines & 2 != 0,
+            compute: true,
+            ics: random.one_in(2),
+            ..Sample::default()
+        };
+        match attempt(&[word], &[], &mut state, sample) {
+            Outcome::Refused(number) => self.refusals[word as usize & 255] = number,
+            Outcome::Done { request, .. } if request >> 16 == WAIT => self.waits[lines] = true,
+            Outcome::Done { microcycles, .. } => {
+                if !self.microcycles.contains(&microcycles) {
+                    self.microcycles.push(microcycles);
+                }
+                self.completes[lines] = true;
+                self.flags |= before.flags ^ state.flags;
+                self.registers |= before.registers != state.registers;
+            }
+        }
+    }
+}
+
+/// Any state in range with LC 0 and no modification.
+fn state(random: &mut Random) -> State {
+    let mut bytes = [0; 41];
+    bytes[..26].fill_with(|| random.telling_byte());
+    bytes[26] = random.byte() & 7;
+    bytes[27] = random.byte();
+    bytes[37] = random.byte() & 7;
+    State::from_bytes(&bytes).expect("in range")
+}

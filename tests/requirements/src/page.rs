@@ -1,0 +1,142 @@
+//! The page as it is read.
+
+use std::ops::RangeInclusive;
+
+/// One line of the page.
+#[derive(Debug)]
+pub struct Requirement {
+    pub key: String,
+    /// Top bytes.
+    pub codes: RangeInclusive<u8>,
+    /// Nothing where it is unlisted.
+    pub format: Option<String>,
+    /// Nothing where it never completes.
+    pub facts: Option<Facts>,
+    refusals: String,
+    pub vectors: usize,
+}
+
+/// What a completed attempt shows.
+#[derive(Debug)]
+pub struct Facts {
+    pub microcycles: u32,
+    /// N Z V C NB ZB C4 C8, high to low.
+    pub flags: u8,
+    pub register: bool,
+    /// With REPLY and BUSY low, REPLY high, BUSY high, both high.
+    pub waits: [bool; 4],
+}
+
+const FLAGS: [&str; 8] = ["C8", "C4", "ZB", "NB", "C", "V", "Z", "N"];
+
+const HEADS: [&str; 2] = [
+    "| Key | Codes | Format | Microcycles | Status | Condition | Register | Waits | Refusals | Vectors |",
+    "| Key | Code | Refusals | Vectors |",
+];
+
+/// The lines of the page's two tables, by their top bytes.
+pub fn read(text: &str) -> Result<Vec<Requirement>, String> {
+    let lines = text.lines().filter(|line| line.starts_with("| "));
+    let (heads, rows): (Vec<&str>, Vec<&str>) = lines.partition(|line| line.starts_with("| Key"));
+    if heads != HEADS {
+        return Err("the tables have other columns".to_string());
+    }
+    let mut requirements = rows
+        .into_iter()
+        .map(|line| requirement(line).ok_or(format!("cannot be read: {line}")))
+        .collect::<Result<Vec<_>, _>>()?;
+    requirements.sort_by_key(|it| *it.codes.start());
+    Ok(requirements)
+}
+
+fn requirement(line: &str) -> Option<Requirement> {
+    let cells: Vec<&str> = line.trim_matches('|').split('|').map(str::trim).collect();
+    let (key, refusals, vectors) = match cells[..] {
+        [key, _, refusals, vectors] => (key, refusals, vectors),
+        [key, _, _, _, _, _, _, _, refusals, vectors] => (key, refusals, vectors),
+        _ => return None,
+    };
+    let (number, file) = vectors.strip_prefix('[')?.split_once("](../vectors/")?;
+    let facts = match cells.get(3) {
+        Some(microcycles) if cells.len() == 10 && !microcycles.is_empty() => Some(facts(&cells)?),
+        _ => None,
+    };
+    (file.strip_suffix(".txt)")? == key).then_some(())?;
+    Some(Requirement {
+        key: key.to_string(),
+        codes: codes(cells[1])?,
+        format: (cells.len() == 10).then(|| cells[2].to_string()),
+        facts,
+        refusals: refusals.to_string(),
+        vectors: number.parse().ok()?,
+    })
+}
+
+fn codes(cell: &str) -> Option<RangeInclusive<u8>> {
+    let (first, last) = cell.split_once('-').unwrap_or((cell, cell));
+    let top = |digits| u8::from_str_radix(digits, 16).ok();
+    Some(top(first)?..=top(last)?)
+}
+
+fn facts(cells: &[&str]) -> Option<Facts> {
+    Some(Facts {
+        microcycles: cells[3].parse().ok()?,
+        flags: flags(cells[4], 0x0F)? | flags(cells[5], 0xF0)?,
+        register: match cells[6] {
+            "yes" => true,
+            "no" => false,
+            _ => return None,
+        },
+        waits: match cells[7] {
+            "never" => [false; 4],
+            "REPLY or BUSY high" => [false, true, true, true],
+            "REPLY low" => [true, false, true, false],
+            _ => return None,
+        },
+    })
+}
+
+/// The flags named, all of the column's own.
+fn flags(cell: &str, own: u8) -> Option<u8> {
+    let names = cell.split(' ').filter(|name| *name != "none");
+    let mask = names.fold(Some(0), |mask, name| {
+        let bit = FLAGS.iter().position(|flag| *flag == name)?;
+        Some(mask? | 1 << bit)
+    })?;
+    (mask & !own == 0).then_some(mask)
+}
+
+/// Manual 5.2's format of a top byte.
+pub fn format(top: u8) -> &'static str {
+    match top {
+        0x00..=0x0F => "jump",
+        0x10..=0x1F => "conditional jump",
+        0x20..=0x6F => "literal",
+        _ => "register",
+    }
+}
+
+impl Requirement {
+    /// CAD is listed too.
+    pub fn listed(&self) -> bool {
+        !self.key.ends_with("-unlisted")
+    }
+
+    /// The refusal, or 0, that the page tells for b and a in a word's low byte.
+    pub fn refusal(&self, low: u8) -> u8 {
+        let (b, a) = (low >> 4, low & 15);
+        let causes = self.refusals.split('.').map(str::trim);
+        let met = causes.filter(|cause| match *cause {
+            "" | "none" => false,
+            "6: code unlisted" | "6: the engine always refuses it" => true,
+            "7: a odd" => a % 2 == 1,
+            "7: a or b odd" => (a | b) % 2 == 1,
+            "8: b over 7" => b > 7,
+            "8: b over 3" => b > 3,
+            // A cause that is not known here is met by every word, with a number that no word has.
+            _ => true,
+        });
+        let numbers = met.map(|cause| cause.as_bytes()[0].wrapping_sub(b'0'));
+        numbers.min().unwrap_or(0)
+    }
+}

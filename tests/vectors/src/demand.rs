@@ -1,0 +1,73 @@
+//! A vector that a code must have.
+
+use crate::draft::Claim;
+use crate::vector::Vector;
+use interpreter::State;
+
+/// A vector that a code must have: its name, and what the name says of it.
+pub struct Demand {
+    name: String,
+    /// What it must claim; whether the claim holds is checked for every vector.
+    claim: Option<Claim>,
+    /// Bits of its word, and what they must be.
+    word: (u32, u32),
+    /// Lines of its first sample, and what they must be.
+    lines: (u8, u8),
+    /// What must be so before.
+    before: fn(&State) -> bool,
+}
+
+impl Demand {
+    /// A vector with this name.
+    pub fn named(name: impl Into<String>) -> Self {
+        Self {
+            name: name.into(),
+            claim: None,
+            word: (0, 0),
+            lines: (0, 0),
+            before: |_| true,
+        }
+    }
+
+    /// It must claim this.
+    pub fn claim(self, claim: Claim) -> Self {
+        let claim = Some(claim);
+        Self { claim, ..self }
+    }
+
+    /// Under this mask its word must be this.
+    pub fn word(self, mask: u32, value: u32) -> Self {
+        let word = (mask, value);
+        Self { word, ..self }
+    }
+
+    /// Under this mask the lines of its first sample must be this.
+    pub fn lines(self, mask: u8, value: u8) -> Self {
+        let lines = (mask, value);
+        Self { lines, ..self }
+    }
+
+    /// The state before must be such.
+    pub fn before(self, before: fn(&State) -> bool) -> Self {
+        Self { before, ..self }
+    }
+
+    /// How the demand is not met, if it is not.
+    pub fn unmet(&self, vectors: &[Vector]) -> Option<String> {
+        let name = &self.name;
+        match vectors.iter().find(|own| own.draft.name == *name) {
+            None => Some(format!("no vector {name}")),
+            Some(own) if self.meets(own) => None,
+            Some(_) => Some(format!("{name} is not what its name says")),
+        }
+    }
+
+    fn meets(&self, own: &Vector) -> bool {
+        let (draft, setting) = (&own.draft, &own.draft.setting);
+        let lines = setting.samples.first().map_or(0, |sample| sample.lines);
+        self.claim.map_or(true, |claim| claim == draft.claim)
+            && setting.word() & self.word.0 == self.word.1
+            && lines & self.lines.0 == self.lines.1
+            && (self.before)(&setting.state)
+    }
+}

@@ -1,0 +1,136 @@
+//! What a vector starts from: the four sections of its deck.
+
+use crate::row::Row;
+use compare::call::{Call, Left};
+use compare::deck::Sections;
+use interpreter::State;
+
+/// An unlisted word, wherever the vector's own words do not lie: it must not be executed.
+pub const ELSEWHERE: u32 = 0x7800;
+
+/// Bit 16 of a word.
+pub const LOAD_RR: u32 = 1 << 16;
+/// Bit 17.
+pub const RNI: u32 = 1 << 17;
+/// Bits 18-21.
+pub const OUTPUTS: u32 = 15 << 18;
+
+/// The lines of a sample: REPLY.
+pub const REPLY: u8 = 1;
+/// BUSY.
+pub const BUSY: u8 = 2;
+/// COMPUTE.
+pub const COMPUTE: u8 = 4;
+/// RESET.
+pub const RESET: u8 = 8;
+/// ICS.
+pub const ICS: u8 = 16;
+
+/// A sample.
+#[derive(Clone, Copy)]
+pub struct Sample {
+    /// DAL.
+    pub data: u16,
+    /// The lines.
+    pub lines: u8,
+    /// I0-I3.
+    pub interrupts: u8,
+}
+
+impl Sample {
+    /// The sample's four bytes.
+    pub fn bytes(&self) -> [u8; 4] {
+        let [low, high] = self.data.to_le_bytes();
+        [low, high, self.lines, self.interrupts]
+    }
+
+    /// The sample with these lines low and those high.
+    pub fn with(self, low: u8, high: u8) -> Self {
+        let lines = self.lines & !low | high;
+        Self { lines, ..self }
+    }
+}
+
+/// The sections of a deck.
+#[derive(Clone)]
+pub struct Setting {
+    /// Words.
+    pub words: Vec<u32>,
+    /// Rows.
+    pub rows: Vec<Row>,
+    /// The state.
+    pub state: State,
+    /// Samples.
+    pub samples: Vec<Sample>,
+}
+
+impl Setting {
+    /// One word at the state's LC, and one sample.
+    pub fn single(word: u32, state: State, sample: Sample) -> Self {
+        let mut words = vec![ELSEWHERE; usize::from(state.lc)];
+        words.push(word);
+        Self {
+            words,
+            rows: Vec::new(),
+            state,
+            samples: vec![sample],
+        }
+    }
+
+    /// The setting with its word at another address.
+    pub fn at(mut self, lc: u16) -> Self {
+        let word = self.stored();
+        self.words = vec![ELSEWHERE; usize::from(lc)];
+        self.words.push(word);
+        self.state.lc = lc;
+        self
+    }
+
+    /// The setting with these bits too in its word.
+    pub fn with_bits(mut self, bits: u32) -> Self {
+        let at = usize::from(self.state.lc);
+        self.words[at] |= bits;
+        self
+    }
+
+    /// The setting with this row.
+    pub fn with_row(mut self, row: Row) -> Self {
+        self.rows.push(row);
+        self
+    }
+
+    /// The setting with this sample before its own.
+    pub fn after(mut self, sample: Sample) -> Self {
+        self.samples.insert(0, sample);
+        self
+    }
+
+    /// The word that the first attempt finds.
+    pub fn stored(&self) -> u32 {
+        self.words[usize::from(self.state.lc)]
+    }
+
+    /// The word that the first attempt takes, its modification ORed in.
+    pub fn word(&self) -> u32 {
+        self.stored() | u32::from(self.state.modification.unwrap_or(0))
+    }
+
+    /// The call of `run`, with one place more than there are samples, which stays untouched.
+    pub fn call(&self) -> Call {
+        let words: Vec<u8> = self.words.iter().flat_map(|w| w.to_le_bytes()).collect();
+        let rows: Vec<u8> = self.rows.iter().flat_map(Row::bytes).collect();
+        let samples: Vec<u8> = self.samples.iter().flat_map(Sample::bytes).collect();
+        let sections = Sections {
+            words: &words,
+            rows: &rows,
+            state: &self.state.to_bytes(),
+            samples: &samples,
+        };
+        Call::patterned(sections.deck(), samples.len() + 4, 41)
+    }
+
+    /// What the interpreter leaves behind.
+    pub fn interpreted(&self) -> Left {
+        self.call().interpreted()
+    }
+}

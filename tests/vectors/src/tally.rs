@@ -1,0 +1,28 @@
+//! Checks counted, and failures told.
+
+/// Failures that are told; the rest are counted.
+const TOLD: usize = 25;
+
+/// How many checks passed and failed.
+#[derive(Default)]
+pub struct Tally {
+    /// Passed.
+    pub passed: usize,
+    /// Failed.
+    pub failed: usize,
+}
+
+impl Tally {
+    /// Counts a check that found nothing wrong, or what it found.
+    pub fn check(&mut self, wrong: Option<String>) {
+        match wrong {
+            None => self.passed += 1,
+            Some(line) => {
+                self.failed += 1;
+                if self.failed <= TOLD {
+                    println!("{line}");
+                }
+            }
+        }
+    }
+}

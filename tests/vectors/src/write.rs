@@ -1,0 +1,72 @@
+//! Makes the vectors and writes their files.
+
+use crate::code::{self, Code};
+use crate::draft::Draft;
+use crate::tally::Tally;
+use crate::vector::Vector;
+use crate::{check, choose, file, further};
+use compare::call::{Call, Left};
+use compare::describe::differences;
+use compare::engine::Engine;
+use std::fs;
+use std::path::Path;
+
+/// Writes a file for each code, when every check passes.
+pub fn all(directory: &Path, engine: &Engine) -> Result<Tally, String> {
+    let codes = code::all();
+    let drafts: Vec<Vec<Draft>> = codes.iter().map(further::drafts).collect();
+    let calls = drafts.iter().flatten().map(|draft| draft.setting.call());
+    let calls: Vec<Call> = calls.collect();
+    let answers = engine.run(&calls).map_err(|error| error.to_string())?;
+    if answers.len() != calls.len() {
+        return Err("the engine left vectors without an answer".to_string());
+    }
+    println!("{} codes, {} vectors", codes.len(), calls.len());
+    let mut results = calls.iter().zip(answers);
+    let mut tally = Tally::default();
+    let mut texts = Vec::new();
+    for (code, drafts) in codes.iter().zip(drafts) {
+        let vectors: Vec<Vector> = drafts
+            .into_iter()
+            .zip(results.by_ref())
+            .map(|(draft, (call, answer))| agreed(&mut tally, code, draft, call, answer.left))
+            .collect();
+        texts.push((code, checked(&mut tally, code, &vectors)));
+    }
+    if tally.failed == 0 {
+        put(directory, &texts)?;
+    }
+    Ok(tally)
+}
+
+/// The vector of a draft; engine and interpreter must leave the same behind in every byte.
+fn agreed(tally: &mut Tally, code: &Code, draft: Draft, call: &Call, left: Left) -> Vector {
+    let expected = call.interpreted();
+    tally.check((left != expected).then(|| {
+        let what = differences(&expected, &left).join("; ");
+        let name = &draft.name;
+        format!("{} {name}: interpreter against engine: {what}", code.key)
+    }));
+    Vector { draft, left }
+}
+
+/// The text of a code's vectors, after they are checked.
+fn checked(tally: &mut Tally, code: &Code, vectors: &[Vector]) -> String {
+    let reach = choose::reached(code);
+    for own in vectors {
+        let wrong = check::vector(code, own);
+        tally.check(wrong.map(|wrong| format!("{} {}: {wrong}", code.key, own.draft.name)));
+    }
+    for wrong in check::together(code, vectors, &reach) {
+        tally.check(wrong.map(|wrong| format!("{}: {wrong}", code.key)));
+    }
+    file::text(code, &reach, vectors)
+}
+
+fn put(directory: &Path, texts: &[(&Code, String)]) -> Result<(), String> {
+    for (code, text) in texts {
+        let path = directory.join(format!("{}.txt", code.key));
+        fs::write(&path, text).map_err(|error| format!("{}: {error}", path.display()))?;
+    }
+    Ok(())
+}
