@@ -1,0 +1,49 @@
+/* The fuzzer's entry: each input is a call of the engine, held to 01, and a deck for the bench host. */
+#define _GNU_SOURCE
+#include "call.h"
+
+#include <stdio.h>
+#include <stdlib.h>
+#include <sys/mman.h>
+#include <unistd.h>
+
+int bench_main(int count, char **words); /* the bench host's main, compiled under this name */
+
+int said = STDERR_FILENO;
+
+__attribute__((constructor)) static void keep_said(void)
+{
+    said = dup(STDERR_FILENO);
+}
+
+void expect(bool holds, const char *what)
+{
+    if (holds)
+        return;
+    dprintf(said, "does not hold: %s\n", what);
+    abort();
+}
+
+/* The bench host on the deck as a file. */
+static void bench(const call *made)
+{
+    static char name[32], program[] = "bench", quiet[] = "--quiet";
+    static int file = -1;
+    if (file < 0) {
+        file = memfd_create("deck", 0);
+        snprintf(name, sizeof name, "/proc/self/fd/%d", file);
+    }
+    expect(!ftruncate(file, 0) && pwrite(file, made->deck, made->deck_len, 0) == (ssize_t)made->deck_len,
+           "the deck can be written to a file");
+    char *in_full[] = {program, name, NULL}, *in_a_line[] = {program, quiet, name, NULL};
+    int status = made->shown ? bench_main(2, in_full) : bench_main(3, in_a_line);
+    expect(status == (made->deck_len > DECK_MOST), "the bench host's status is by the deck's length");
+}
+
+int LLVMFuzzerTestOneInput(const uint8_t *bytes, size_t length)
+{
+    call made = shape(bytes, length);
+    check(&made);
+    bench(&made);
+    return 0;
+}
