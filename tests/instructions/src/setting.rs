@@ -51,22 +51,7 @@ impl<'a> Setting<'a> {
 
 /// The state before any name is set.
 fn background(high: bool) -> State {
-    let all = if high { 0xFFFF } else { 0 };
-    State {
-        registers: std::array::from_fn(|at| (0x10 + at as u8) ^ all as u8),
-        g: all as u8 & 7,
-        flags: all as u8,
-        lc: if high { 0x7A5 } else { 0x012 },
-        rr: all & 0x7FF,
-        tr: all,
-        m: all,
-        tsr: all as u8 & 7,
-        ics: high,
-        sync: high,
-        iack: high,
-        internal: all as u8 & 7,
-        modification: high.then_some(0),
-    }
+    compare::background::state(high, if high { 0x7A5 } else { 0x012 })
 }
 
 fn set_all(state: &mut State, terms: &[Term]) -> Result<(), String> {

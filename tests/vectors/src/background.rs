@@ -14,24 +14,11 @@ pub enum Background {
 }
 
 impl Background {
-    /// The state. Each register has its own value, so that none is changed or mistaken unseen.
+    /// The state.
     pub fn state(self) -> State {
-        let high = self == Background::High;
-        let all = if high { 0xFFFF } else { 0 };
-        State {
-            registers: std::array::from_fn(|at| (0x10 + at as u8) ^ all as u8),
-            g: all as u8 & 7,
-            flags: all as u8,
-            lc: if high { 0x010 } else { 0x000 },
-            rr: all & 0x7FF,
-            tr: all,
-            m: all,
-            tsr: all as u8 & 7,
-            ics: high,
-            sync: high,
-            iack: high,
-            internal: all as u8 & 7,
-            modification: high.then_some(0),
+        match self {
+            Background::Low => compare::background::state(false, 0x000),
+            Background::High => compare::background::state(true, 0x010),
         }
     }
 
