@@ -6,7 +6,7 @@ use lib.Bits.{bitOr}
 use lib.Dec.{eqb, ltb}
 use lib.ListN.{length}
 use Rattle.choose.specs.Ranged.{pick}
-use Rattle.code.specs.Rows.{cyclesOf}
+use Rattle.code.specs.CodeRows.{cyclesOf}
 use Rattle.code.specs.Word.{apartOf, numberOf}
 use Rattle.code.specs.declared.Apart.{Apart}
 use Rattle.code.specs.declared.Fields.{Fields}
@@ -18,6 +18,7 @@ use Rattle.numbers.specs.Numbers.{wordAt}
 use Rattle.rows.specs.Scan.{scanOf, none}
 use Rattle.rows.specs.declared.Outputs.{Outputs}
 use Rattle.rows.specs.declared.Row.{Row}
+use Rattle.state.specs.File.{Leaves, leaves}
 use Rattle.state.specs.declared.Core.{Core}
 use Rattle.state.specs.declared.Latches.{Latches}
 use Rattle.state.specs.declared.Sample.{Sample}
@@ -27,43 +28,35 @@ use Rattle.attempt.specs.Effect.{effectOf}
 abbrev pub outcomeOf : Core → ℕ → ℕ → ℕ → Outcome
 outcomeOf k request cycles refusal = record { core = k; request = request; cycles = cycles; refusal = refusal }
 
--- an outcome, and the file that it leaves
-pub record Ended : Type 0 where
-  pub file : List ℕ
-  pub outcome : Outcome
-
-abbrev pub ended : List ℕ → Outcome → Ended
-ended xs o = record { file = xs; outcome = o }
-
 -- a refusal returns the state before the attempt; a wait, RESET and COMPUTE low cost 1 and leave a request of their kind
-abbrev pub refused : List ℕ → Core → ℕ → Ended
-refused xs k number = ended xs (outcomeOf k 0 0 number)
+abbrev pub whenRefused : List ℕ → Core → ℕ → Leaves Outcome
+whenRefused xs k number = leaves xs (outcomeOf k 0 0 number)
 
-abbrev pub idled : List ℕ → Core → ℕ → Ended
-idled xs k kind = ended xs (outcomeOf k (placed kind 0) 1 0)
+abbrev pub whenIdle : List ℕ → Core → ℕ → Leaves Outcome
+whenIdle xs k kind = leaves xs (outcomeOf k (placed kind 0) 1 0)
 
 -- an executed word: its effect, and the next address by the way it goes and the rows' outputs
-unfoldable pub executedOf : List ℕ → Core → Fields → Sample → Outputs → Ended
+unfoldable pub executedOf : List ℕ → Core → Fields → Sample → Outputs → Leaves Outcome
 executedOf xs k w sample o =
     let e = effectOf xs k (w .code) (w .operands) sample in
-    ended (e .file)
+    leaves (e .file)
     (outcomeOf
     (record {
-      flags = e .effect .flags;
-      address = addressAfter (k .address) (e .effect .way) (w .code) (w .«load_rr») o;
-      bus = e .effect .bus;
-      latches = e .effect .latches;
+      flags = e .back .flags;
+      address = addressAfter (k .address) (e .back .way) (w .code) (w .«load_rr») o;
+      bus = e .back .bus;
+      latches = e .back .latches;
     })
-    (e .effect .request)
+    (e .back .request)
     (cyclesOf (w .code))
     0)
 
 -- "Then refusals, then waiting, then execution"
-unfoldable pub triedOf : List ℕ → Core → Fields → Sample → Outputs → Ended
-triedOf xs k w sample o =
+unfoldable pub checkedOf : List ℕ → Core → Fields → Sample → Outputs → Leaves Outcome
+checkedOf xs k w sample o =
     pick (eqb (wordRefusalOf (w .code) (w .operands)) 0)
-    (pick (waitingOf (w .code) sample) (idled xs k 10) (executedOf xs k w sample o))
-    (refused xs k (wordRefusalOf (w .code) (w .operands)))
+    (pick (waitingOf (w .code) sample) (whenIdle xs k 10) (executedOf xs k w sample o))
+    (whenRefused xs k (wordRefusalOf (w .code) (w .operands)))
 
 -- "RESET high: LC becomes 1, SYNC and IACK go low, the waiting modification is dropped, nothing else changes"
 unfoldable pub resetOf : Core → Core
@@ -80,22 +73,22 @@ unfoldable pub modifiedOf : ℕ → Latches → ℕ
 modifiedOf w l = pick (l .marked) (w / 0x1_0000 * 0x1_0000 + bitOr (w % 0x1_0000) (l .modification)) w
 
 -- 5, "LC has no word"; then 6, "code unlisted". A word of 2^22 or more is 2, which a run refuses before its first attempt
-abbrev pub takenOf : Apart → Outputs → List ℕ → Core → Sample → Ended
-takenOf (Apart.Word w) o xs k sample = triedOf xs k w sample o
-takenOf Apart.OutOfRange o xs k sample = refused xs k (numberOf Apart.OutOfRange)
-takenOf Apart.Unlisted o xs k sample = refused xs k (numberOf Apart.Unlisted)
+abbrev pub takenOf : Apart → Outputs → List ℕ → Core → Sample → Leaves Outcome
+takenOf (Apart.Word w) o xs k sample = checkedOf xs k w sample o
+takenOf Apart.OutOfRange o xs k sample = whenRefused xs k (numberOf Apart.OutOfRange)
+takenOf Apart.Unlisted o xs k sample = whenRefused xs k (numberOf Apart.Unlisted)
 
-unfoldable pub fetchedOf : List ℕ → Outputs → List ℕ → Core → Sample → Ended
+unfoldable pub fetchedOf : List ℕ → Outputs → List ℕ → Core → Sample → Leaves Outcome
 fetchedOf ws o xs k sample =
     pick (ltb (k .address .lc) (length ws / 4))
     (takenOf (apartOf (modifiedOf (wordAt ws (k .address .lc)) (k .latches))) o xs k sample)
-    (refused xs k 5)
+    (whenRefused xs k 5)
 
 -- "RESET high: .. (request kind 11). Else COMPUTE low: nothing changes (kind 12). .. Else the word at LC is taken"
-unfoldable pub attemptedOf : List ℕ → Outputs → List ℕ → Core → Sample → Ended
+unfoldable pub attemptedOf : List ℕ → Outputs → List ℕ → Core → Sample → Leaves Outcome
 attemptedOf ws o xs k sample =
-    pick (sample .reset) (idled xs (resetOf k) 11)
-    (pick (sample .compute) (fetchedOf ws o xs k sample) (idled xs k 12))
+    pick (sample .reset) (whenIdle xs (resetOf k) 11)
+    (pick (sample .compute) (fetchedOf ws o xs k sample) (whenIdle xs k 12))
 
 -- "Outputs of all matching rows are ORed": those for the word at LC, with its own bit 17
 unfoldable pub outputsOf : List ℕ → List Row → Core → Sample → Outputs
@@ -105,5 +98,5 @@ outputsOf ws rs k sample =
     none
 
 -- one attempt: words, rows, registers, the rest of the state, sample
-unfoldable pub attemptOf : List ℕ → List Row → List ℕ → Core → Sample → Ended
+unfoldable pub attemptOf : List ℕ → List Row → List ℕ → Core → Sample → Leaves Outcome
 attemptOf ws rs xs k sample = attemptedOf ws (outputsOf ws rs k sample) xs k sample

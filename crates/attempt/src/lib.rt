@@ -13,8 +13,9 @@ use state::Latches;
 use state::Sample;
 ghost use mathlib.Core.Path.{_≡_};
 ghost use lib.ListN.{take};
-ghost use Rattle.attempt.specs.Effect.{jumpedOf, effected, literalEffect, registerEffect, effectOf};
-ghost use Rattle.attempt.specs.Attempt.{outcomeOf, resetOf, modifiedOf, ended, executedOf, triedOf, fetchedOf, outputsOf, attemptOf};
+ghost use Rattle.attempt.specs.Effect.{jumpedOf, literalEffect, registerEffect, effectOf};
+ghost use Rattle.attempt.specs.Attempt.{outcomeOf, resetOf, modifiedOf, executedOf, checkedOf, fetchedOf, outputsOf, attemptOf};
+ghost use Rattle.state.specs.File.{leaves};
 
 // What an executed instruction does, but for the next address.
 pub struct Effect {
@@ -50,7 +51,7 @@ fn jumped(core: Core, code: u8, n: u16) -> Effect
 }
 
 fn literal(file: &mut [u8; 26], core: Core, code: u8, value: u8, reg: u8) -> Effect
-    ensures { λ r. ⌜ effected (now (file .exit)) r ≡ literalEffect (now (file .entry)) core code value reg ⌝ }
+    ensures { λ r. ⌜ leaves (now (file .exit)) r ≡ literalEffect (now (file .entry)) core code value reg ⌝ }
 {
     let before = core.flags;
     let bus = core.bus;
@@ -66,7 +67,7 @@ fn literal(file: &mut [u8; 26], core: Core, code: u8, value: u8, reg: u8) -> Eff
 }
 
 fn register(file: &mut [u8; 26], core: Core, code: u8, b: u8, a: u8, sample: Sample) -> Effect
-    ensures { λ r. ⌜ effected (now (file .exit)) r ≡ registerEffect (now (file .entry)) core code b a sample ⌝ }
+    ensures { λ r. ⌜ leaves (now (file .exit)) r ≡ registerEffect (now (file .entry)) core code b a sample ⌝ }
 {
     let l = core.latches;
     let held = core.bus;
@@ -93,7 +94,7 @@ fn effect_of(
     operands: Operands,
     sample: Sample,
 ) -> Effect
-    ensures { λ r. ⌜ effected (now (file .exit)) r ≡ effectOf (now (file .entry)) core code operands sample ⌝ }
+    ensures { λ r. ⌜ leaves (now (file .exit)) r ≡ effectOf (now (file .entry)) core code operands sample ⌝ }
 {
     match operands {
         Operands::Jump(n) => jumped(core, code, n),
@@ -102,7 +103,7 @@ fn effect_of(
     }
 }
 
-fn leaves(core: Core, request: u32, cycles: u8, refusal: u8) -> Outcome
+fn outcome_of(core: Core, request: u32, cycles: u8, refusal: u8) -> Outcome
     ensures { λ r. ⌜ r ≡ outcomeOf core request cycles refusal ⌝ }
 {
     Outcome {
@@ -114,7 +115,7 @@ fn leaves(core: Core, request: u32, cycles: u8, refusal: u8) -> Outcome
 }
 
 fn executed(file: &mut [u8; 26], core: Core, fields: Fields, sample: Sample, o: Outputs) -> Outcome
-    ensures { λ r. ⌜ ended (now (file .exit)) r ≡ executedOf (now (file .entry)) core fields sample o ⌝ }
+    ensures { λ r. ⌜ leaves (now (file .exit)) r ≡ executedOf (now (file .entry)) core fields sample o ⌝ }
 {
     let operands = fields.operands;
     let e = effect_of(file, core, fields.code, operands, sample);
@@ -131,20 +132,20 @@ fn executed(file: &mut [u8; 26], core: Core, fields: Fields, sample: Sample, o: 
         bus,
         latches,
     };
-    leaves(after, e.request, cycles, 0)
+    outcome_of(after, e.request, cycles, 0)
 }
 
 // A listed word: refusals, then waiting, then execution.
-fn tried(file: &mut [u8; 26], core: Core, fields: Fields, sample: Sample, o: Outputs) -> Outcome
-    ensures { λ r. ⌜ ended (now (file .exit)) r ≡ triedOf (now (file .entry)) core fields sample o ⌝ }
+fn checked(file: &mut [u8; 26], core: Core, fields: Fields, sample: Sample, o: Outputs) -> Outcome
+    ensures { λ r. ⌜ leaves (now (file .exit)) r ≡ checkedOf (now (file .entry)) core fields sample o ⌝ }
 {
     let operands = fields.operands;
     let number = checks::refusal(fields.code, operands);
     if number != 0 {
-        return leaves(core, 0, 0, number);
+        return outcome_of(core, 0, 0, number);
     }
     if checks::waiting(fields.code, sample) {
-        return leaves(core, control::placed(10, 0), 1, 0);
+        return outcome_of(core, control::placed(10, 0), 1, 0);
     }
     executed(file, core, fields, sample, o)
 }
@@ -184,24 +185,24 @@ fn modified(word: u32, l: Latches) -> u32
 
 // With RESET low and COMPUTE high: the word at LC is taken, and the modification goes in.
 fn fetched(words: &[u8], o: Outputs, file: &mut [u8; 26], core: Core, sample: Sample) -> Outcome
-    ensures { λ r. ⌜ ended (now (file .exit)) r ≡ fetchedOf (now (words .entry)) o (now (file .entry)) core sample ⌝ }
+    ensures { λ r. ⌜ leaves (now (file .exit)) r ≡ fetchedOf (now (words .entry)) o (now (file .entry)) core sample ⌝ }
 {
     let at = core.address.lc as usize;
     if words.len() / 4 <= at {
-        return leaves(core, 0, 0, 5);
+        return outcome_of(core, 0, 0, 5);
     }
     let word = numbers::quad_at(words, at * 4);
     let l = core.latches;
     let apart = code::taken_apart(modified(word, l));
     match apart {
-        Apart::Word(fields) => tried(file, core, fields, sample, o),
-        Apart::OutOfRange => leaves(core, 0, 0, 2),
-        Apart::Unlisted => leaves(core, 0, 0, 6),
+        Apart::Word(fields) => checked(file, core, fields, sample, o),
+        Apart::OutOfRange => outcome_of(core, 0, 0, 2),
+        Apart::Unlisted => outcome_of(core, 0, 0, 6),
     }
 }
 
 // What the first n rows of the table put out for the word at LC. Without rows nothing is looked at.
-fn looked(words: &[u8], table: [Row; 128], n: usize, core: Core, sample: Sample) -> Outputs
+fn outputs(words: &[u8], table: [Row; 128], n: usize, core: Core, sample: Sample) -> Outputs
     ensures { λ r. ⌜ r ≡ outputsOf (now (words .entry)) (take n table) core sample ⌝ }
 {
     let at = core.address.lc as usize;
@@ -227,14 +228,14 @@ pub fn attempt(
     core: Core,
     sample: Sample,
 ) -> Outcome
-    ensures { λ r. ⌜ ended (now (file .exit)) r ≡ attemptOf (now (words .entry)) (take n table) (now (file .entry)) core sample ⌝ }
+    ensures { λ r. ⌜ leaves (now (file .exit)) r ≡ attemptOf (now (words .entry)) (take n table) (now (file .entry)) core sample ⌝ }
 {
     if sample.reset {
-        return leaves(reset(core), control::placed(11, 0), 1, 0);
+        return outcome_of(reset(core), control::placed(11, 0), 1, 0);
     }
     if sample.compute {
-        let o = looked(words, table, n, core, sample);
+        let o = outputs(words, table, n, core, sample);
         return fetched(words, o, file, core, sample);
     }
-    leaves(core, control::placed(12, 0), 1, 0)
+    outcome_of(core, control::placed(12, 0), 1, 0)
 }

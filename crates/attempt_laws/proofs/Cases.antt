@@ -14,28 +14,30 @@ use Rattle.rows.specs.declared.Outputs.{Outputs}
 use Rattle.rows.specs.declared.Row.{Row}
 use Rattle.state.specs.declared.Core.{Core}
 use Rattle.state.specs.declared.Sample.{Sample}
-use Rattle.attempt.specs.Attempt.{Ended, refused, idled, executedOf, triedOf, resetOf, modifiedOf, takenOf, fetchedOf, attemptedOf, outputsOf, attemptOf}
+use Rattle.attempt.specs.Attempt.{whenRefused, whenIdle, executedOf, checkedOf, resetOf, modifiedOf, takenOf, fetchedOf, attemptedOf, outputsOf, attemptOf}
 use Rattle.choose.proofs.Choice.{pick-all}
 use Rattle.numbers.specs.Numbers.{wordAt}
+use Rattle.state.specs.File.{Leaves}
+use Rattle.attempt.specs.declared.Outcome.{Outcome}
 
 -- P of each case, with the rows' outputs o
-pub record Cases (P : Ended → Type 0) (xs : List ℕ) (k : Core) (s : Sample) (o : Outputs) : Type 0 where
-  pub refuses : (number : ℕ) → P (refused xs k number)
-  pub waits : P (idled xs k 10)
-  pub resets : P (idled xs (resetOf k) 11)
-  pub stops : P (idled xs k 12)
+pub record Cases (P : Leaves Outcome → Type 0) (xs : List ℕ) (k : Core) (s : Sample) (o : Outputs) : Type 0 where
+  pub refuses : (number : ℕ) → P (whenRefused xs k number)
+  pub waits : P (whenIdle xs k 10)
+  pub resets : P (whenIdle xs (resetOf k) 11)
+  pub stops : P (whenIdle xs k 12)
   pub executes : (w : Fields) → WellFormed w → P (executedOf xs k w s o)
 
-module _ (P : Ended → Type 0) (xs : List ℕ) (k : Core) (s : Sample) (o : Outputs) (c : Cases P xs k s o) where
-  tried-all : (w : Fields) → WellFormed w → P (triedOf xs k w s o)
-  unfolding triedOf
-  tried-all w f =
+module _ (P : Leaves Outcome → Type 0) (xs : List ℕ) (k : Core) (s : Sample) (o : Outputs) (c : Cases P xs k s o) where
+  checked-all : (w : Fields) → WellFormed w → P (checkedOf xs k w s o)
+  unfolding checkedOf
+  checked-all w f =
       pick-all P (eqb (wordRefusalOf (w .code) (w .operands)) 0) _ _
       (pick-all P (waitingOf (w .code) s) _ _ (c .waits) (c .executes w f))
       (c .refuses (wordRefusalOf (w .code) (w .operands)))
 
   taken-all : (word : ℕ) (x : Apart) → apartOf word ≡ x → P (takenOf x o xs k s)
-  taken-all word (Apart.Word w) e = tried-all w (apart-well-formed word w e)
+  taken-all word (Apart.Word w) e = checked-all w (apart-well-formed word w e)
   taken-all word Apart.OutOfRange e = c .refuses 2
   taken-all word Apart.Unlisted e = c .refuses 6
 
@@ -51,7 +53,7 @@ module _ (P : Ended → Type 0) (xs : List ℕ) (k : Core) (s : Sample) (o : Out
   attempted-all ws =
       pick-all P (s .reset) _ _ (c .resets) (pick-all P (s .compute) _ _ (fetched-all ws) (c .stops))
 
-pub attempt-all : (P : Ended → Type 0) (ws : List ℕ) (rs : List Row) (xs : List ℕ) (k : Core) (s : Sample)
+pub attempt-all : (P : Leaves Outcome → Type 0) (ws : List ℕ) (rs : List Row) (xs : List ℕ) (k : Core) (s : Sample)
     → Cases P xs k s (outputsOf ws rs k s) → P (attemptOf ws rs xs k s)
 unfolding attemptOf
 attempt-all P ws rs xs k s c = attempted-all P xs k s (outputsOf ws rs k s) c ws

@@ -15,7 +15,7 @@ use Rattle.state.specs.declared.Bus.{Bus}
 use Rattle.state.specs.declared.Latches.{Latches}
 use Rattle.state.specs.declared.Sample.{Sample}
 use Rattle.control.specs.Bus.{afterInput, busAfter, requestOf}
-use Rattle.control.specs.Latches.{used, withInterrupts, withLoaded, waiting, inputLatchesOf, latchesAfter}
+use Rattle.control.specs.Latches.{used, withInterrupts, withLoaded, withModification, inputLatchesOf, latchesAfter}
 use Rattle.control.specs.Next.{jumpTaken, wayOf, onwardOf, nextOf, rrOf, tsrOf, addressAfter}
 use Rattle.control.specs.declared.Way.{Way}
 use Rattle.choose.proofs.Choice.{end, _also_, pick-all, ranged-all}
@@ -63,8 +63,8 @@ plain g tr i ics hg ht hi =
 pub used-in-range : (l : Latches) → LatchesInRange l → LatchesInRange (used l)
 used-in-range l h = plain (l .g) (l .tr) (l .interrupts) (l .ics) (h .g) (h .tr) (h .interrupts)
 
-waiting-in-range : (l : Latches) (n : ℕ) → LatchesInRange l → n < 65536 → LatchesInRange (waiting l n)
-waiting-in-range l n h p =
+with-modification-in-range : (l : Latches) (n : ℕ) → LatchesInRange l → n < 65536 → LatchesInRange (withModification l n)
+with-modification-in-range l n h p =
     record { g = h .g; tr = h .tr; interrupts = h .interrupts; modification = p; unmarked = λ e. absurd (false≢true (sym e)) }
 
 module _ (l : Latches) (h : LatchesInRange l) where
@@ -90,7 +90,7 @@ module _ (l : Latches) (h : LatchesInRange l) where
       u also
       input-latches-in-range b (sample .dal) (sample .ics) d also
       u also
-      waiting-in-range l pair h p also
+      with-modification-in-range l pair h p also
       plain (l .g) pair (l .interrupts) (l .ics) (h .g) p (h .interrupts) also
       end)
       u

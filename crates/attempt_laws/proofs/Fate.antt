@@ -11,7 +11,7 @@ use borrow.Author.Tests.{lt-ltb, ltb-true, eqb-false, ne-eqb}
 use Rattle.choose.specs.Ranged.{pick, ranged}
 use Rattle.choose.specs.Below.{allBelow}
 use Rattle.choose.proofs.Table.{below}
-use Rattle.code.specs.Rows.{classOf, listed, pairsOf, waitsOf, optionsOf}
+use Rattle.code.specs.CodeRows.{classOf, listed, pairsOf, waitsOf, optionsOf}
 use Rattle.code.specs.Word.{topOf, codeOf, codeIn, operandsIn, fieldsIn, apartOf}
 use Rattle.code.specs.declared.Apart.{Apart}
 use Rattle.code.specs.declared.Class.{Class}
@@ -24,35 +24,37 @@ use Rattle.rows.specs.declared.Row.{Row}
 use Rattle.state.specs.Range.{InRange, SampleInRange}
 use Rattle.state.specs.declared.Core.{Core}
 use Rattle.state.specs.declared.Sample.{Sample}
-use Rattle.attempt.specs.Attempt.{Ended, executedOf, triedOf, takenOf, fetchedOf, attemptedOf, outputsOf, attemptOf}
-use Rattle.attempt_laws.specs.Fate.{Fate, refused, waited, reset, compute-low, completed, noCode, oddPair, noOption, mustWait, bIn, aIn, wordFate, takenWord, fateOf, Bears, seen}
+use Rattle.attempt.specs.Attempt.{executedOf, checkedOf, takenOf, fetchedOf, attemptedOf, outputsOf, attemptOf}
+use Rattle.attempt_laws.specs.Fate.{Fate, refused, waited, reset, compute-low, completed, noCode, oddPair, noOption, mustWait, bIn, aIn, wordFate, takenWord, fateOf, EndsAs, seen}
 use Rattle.choose.proofs.Choice.{pick-both}
 use Rattle.choose.proofs.Tests.{equal-tests}
 use Rattle.attempt_laws.proofs.Range.{executed-request}
+use Rattle.state.specs.File.{Leaves}
+use Rattle.attempt.specs.declared.Outcome.{Outcome}
 
 -- ---- the engine's tables against 01's lists: two tests over the 256 codes, which the checker computes
 
 -- the number by 01's lists
-abbrev numberOf : ℕ → ℕ → ℕ → ℕ
-numberOf code b a = pick (noCode code) 6 (pick (oddPair code b a) 7 (pick (noOption code b) 8 0))
+abbrev numberByLists : ℕ → ℕ → ℕ → ℕ
+numberByLists code b a = pick (noCode code) 6 (pick (oddPair code b a) 7 (pick (noOption code b) 8 0))
 
 -- and by the engine's class and tables
-abbrev numberIn : Class → ℕ → ℕ → ℕ → ℕ
-numberIn Class.Unlisted code b a = 6
-numberIn Class.Jump code b a = 0
-numberIn Class.Conditional code b a = 0
-numberIn Class.Literal code b a = 0
-numberIn Class.Register code b a = designatorRefusalOf code b a
+abbrev numberByTables : Class → ℕ → ℕ → ℕ → ℕ
+numberByTables Class.Unlisted code b a = 6
+numberByTables Class.Jump code b a = 0
+numberByTables Class.Conditional code b a = 0
+numberByTables Class.Literal code b a = 0
+numberByTables Class.Register code b a = designatorRefusalOf code b a
 
 abbrev agree : ℕ → ℕ → ℕ → Bool
-agree code b a = eqb (numberIn (classOf code) code b a) (numberOf code b a)
+agree code b a = eqb (numberByTables (classOf code) code b a) (numberByLists code b a)
 
 -- for every code and designators
-numbers-equal : (code b a : ℕ) → code < 256 → b < 16 → a < 16 → numberIn (classOf code) code b a ≡ numberOf code b a
+numbers-equal : (code b a : ℕ) → code < 256 → b < 16 → a < 16 → numberByTables (classOf code) code b a ≡ numberByLists code b a
 unfolding classOf ranged designatorRefusalOf oddDesignatorOf pairsOf optionsOf noCode oddPair noOption
 numbers-equal code b a h i j =
     let codes = below 256 (λ c. allBelow 16 (λ x. allBelow 16 (agree c x))) tt code h in
-    eqb→eq (numberIn (classOf code) code b a) (numberOf code b a) (below 16 (agree code b) (below 16 (λ x. allBelow 16 (agree code x)) codes b i) a j)
+    eqb→eq (numberByTables (classOf code) code b a) (numberByLists code b a) (below 16 (agree code b) (below 16 (λ x. allBelow 16 (agree code x)) codes b i) a j)
 
 -- for every code and lines
 waits-equal : (code : ℕ) → code < 256 → (s : Sample) → waitingOf (codeOf code) s ≡ mustWait code (s .reply) (s .busy)
@@ -72,7 +74,7 @@ waits-equal code h s = go (s .reply) (s .busy)
     go false false = equal-tests _ _ (below 256 (test false false) tt code h)
 
 -- the engine's number of a listed word is that of its class
-refusal-in : (c : Class) (word : ℕ) → listed c ≡ true → wordRefusalOf (codeIn c (topOf word)) (operandsIn c word) ≡ numberIn c (topOf word) (bIn word) (aIn word)
+refusal-in : (c : Class) (word : ℕ) → listed c ≡ true → wordRefusalOf (codeIn c (topOf word)) (operandsIn c word) ≡ numberByTables c (topOf word) (bIn word) (aIn word)
 unfolding wordRefusalOf operandsIn
 refusal-in Class.Unlisted word l = absurd (false≢true l)
 refusal-in Class.Jump word l = refl
@@ -80,7 +82,7 @@ refusal-in Class.Conditional word l = refl
 refusal-in Class.Literal word l = refl
 refusal-in Class.Register word l = refl
 
-unlisted-in : (c : Class) (code b a : ℕ) → listed c ≡ false → numberIn c code b a ≡ 6
+unlisted-in : (c : Class) (code b a : ℕ) → listed c ≡ false → numberByTables c code b a ≡ 6
 unlisted-in Class.Unlisted code b a l = refl
 unlisted-in Class.Jump code b a l = absurd (false≢true (sym l))
 unlisted-in Class.Conditional code b a l = absurd (false≢true (sym l))
@@ -105,63 +107,63 @@ pick-known P true a b x y p q = p refl
 pick-known P false a b x y p q = q refl
 
 module _ (xs : List ℕ) (k : Core) (s : Sample) (o : Outputs) where
-  tried-bears : (word n : ℕ) (t : Bool) (w : Fields) → apartOf word ≡ Apart.Word w → wordRefusalOf (w .code) (w .operands) ≡ n → waitingOf (w .code) s ≡ t
-      → Bears word xs k s o (triedOf xs k w s o) (pick (eqb n 0) (pick t waited completed) (refused n))
-  unfolding triedOf
-  tried-bears word n t w e p q =
+  checked-ends : (word n : ℕ) (t : Bool) (w : Fields) → apartOf word ≡ Apart.Word w → wordRefusalOf (w .code) (w .operands) ≡ n → waitingOf (w .code) s ≡ t
+      → EndsAs word xs k s o (checkedOf xs k w s o) (pick (eqb n 0) (pick t waited completed) (refused n))
+  unfolding checkedOf
+  checked-ends word n t w e p q =
       rw (p, q)
-      (pick-known (Bears word xs k s o) (eqb n 0) _ _ _ _
-      (λ z. pick-both (Bears word xs k s o) t _ _ _ _ refl (w, e, refl))
+      (pick-known (EndsAs word xs k s o) (eqb n 0) _ _ _ _
+      (λ z. pick-both (EndsAs word xs k s o) t _ _ _ _ refl (w, e, refl))
       (λ z. (eqb-false n 0 z, refl)))
 
   -- a word below 2^22
-  word-bears : (word : ℕ) → word < 0x40_0000 → (l : Bool) → listed (classOf (topOf word)) ≡ l
-      → (n : ℕ) → numberIn (classOf (topOf word)) (topOf word) (bIn word) (aIn word) ≡ n
-      → Bears word xs k s o (takenOf (pick l (Apart.Word (fieldsIn (classOf (topOf word)) word)) Apart.Unlisted) o xs k s)
+  word-ends : (word : ℕ) → word < 0x40_0000 → (l : Bool) → listed (classOf (topOf word)) ≡ l
+      → (n : ℕ) → numberByTables (classOf (topOf word)) (topOf word) (bIn word) (aIn word) ≡ n
+      → EndsAs word xs k s o (takenOf (pick l (Apart.Word (fieldsIn (classOf (topOf word)) word)) Apart.Unlisted) o xs k s)
       (pick (eqb n 0) (pick (mustWait (topOf word) (s .reply) (s .busy)) waited completed) (refused n))
   unfolding fieldsIn codeOf
-  word-bears word h true l n e =
-      tried-bears word n _ (fieldsIn (classOf (topOf word)) word) (is-apart word h l) (refusal-in (classOf (topOf word)) word l ∙ e)
+  word-ends word h true l n e =
+      checked-ends word n _ (fieldsIn (classOf (topOf word)) word) (is-apart word h l) (refusal-in (classOf (topOf word)) word l ∙ e)
       (waits-equal (topOf word) (omega arith) s)
-  word-bears word h false l n e =
+  word-ends word h false l n e =
       rw (sym e ∙ unlisted-in (classOf (topOf word)) (topOf word) (bIn word) (aIn word) l) ((λ z. omega arith), refl)
 
-  taken-bears : (word : ℕ) → Bears word xs k s o (takenOf (apartOf word) o xs k s) (wordFate word s)
+  taken-ends : (word : ℕ) → EndsAs word xs k s o (takenOf (apartOf word) o xs k s) (wordFate word s)
   unfolding apartOf wordFate
-  taken-bears word =
+  taken-ends word =
       rw (by-number (noCode (topOf word)) (oddPair (topOf word) (bIn word) (aIn word)) (noOption (topOf word) (bIn word)))
-      (pick-known (λ (x : Apart) (f : Fate). Bears word xs k s o (takenOf x o xs k s) f) (ltb word 0x40_0000) _ _ _ _
-      (λ h. word-bears word (ltb-true word 0x40_0000 h) _ refl _ (numbers-equal (topOf word) (bIn word) (aIn word) (omega arith) (omega arith) (omega arith)))
+      (pick-known (λ (x : Apart) (f : Fate). EndsAs word xs k s o (takenOf x o xs k s) f) (ltb word 0x40_0000) _ _ _ _
+      (λ h. word-ends word (ltb-true word 0x40_0000 h) _ refl _ (numbers-equal (topOf word) (bIn word) (aIn word) (omega arith) (omega arith) (omega arith)))
       (λ h. ((λ z. omega arith), refl)))
 
-  attempted-bears : (ws : List ℕ) → Bears (takenWord ws k) xs k s o (attemptedOf ws o xs k s) (fateOf ws k s)
+  attempted-ends : (ws : List ℕ) → EndsAs (takenWord ws k) xs k s o (attemptedOf ws o xs k s) (fateOf ws k s)
   unfolding attemptedOf fetchedOf fateOf
-  attempted-bears ws =
-      let P = Bears (takenWord ws k) xs k s o in
+  attempted-ends ws =
+      let P = EndsAs (takenWord ws k) xs k s o in
       pick-both P (s .reset) _ _ _ _ refl
       (pick-both P (s .compute) _ _ _ _
-      (pick-both P (ltb (k .address .lc) (length ws / 4)) _ _ _ _ (taken-bears (takenWord ws k)) ((λ z. omega arith), refl))
+      (pick-both P (ltb (k .address .lc) (length ws / 4)) _ _ _ _ (taken-ends (takenWord ws k)) ((λ z. omega arith), refl))
       refl)
 
   -- a fate is seen by the refusal's number and the request's kind
-  seen-bears : (word : ℕ) → InRange xs k → SampleInRange s → (e : Ended) (f : Fate) → Bears word xs k s o e f → seen e ≡ f
+  seen-ends : (word : ℕ) → InRange xs k → SampleInRange s → (e : Leaves Outcome) (f : Fate) → EndsAs word xs k s o e f → seen e ≡ f
   unfolding seen ranged executedOf
-  seen-bears word h d e (refused n) (z, q) = rw (q, ne-eqb n 0 z)
-  seen-bears word h d e waited q = rw q
-  seen-bears word h d e reset q = rw q
-  seen-bears word h d e compute-low q = rw q
-  seen-bears word h d e completed (w, a, q) =
+  seen-ends word h d e (refused n) (z, q) = rw (q, ne-eqb n 0 z)
+  seen-ends word h d e waited q = rw q
+  seen-ends word h d e reset q = rw q
+  seen-ends word h d e compute-low q = rw q
+  seen-ends word h d e completed (w, a, q) =
       let request = executed-request xs k s o w h d (apart-well-formed word w a) in
-      rw (q, lt-ltb (executedOf xs k w s o .outcome .request / 65536) 10 (omega arith))
+      rw (q, lt-ltb (executedOf xs k w s o .back .request / 65536) 10 (omega arith))
 
 -- ---- the laws
 
 module _ (ws : List ℕ) (rs : List Row) (xs : List ℕ) (k : Core) (s : Sample) where
   -- an attempt is what 01's conditions make it, whatever is handed in
-  pub attempt-fate : Bears (takenWord ws k) xs k s (outputsOf ws rs k s) (attemptOf ws rs xs k s) (fateOf ws k s)
+  pub attempt-fate : EndsAs (takenWord ws k) xs k s (outputsOf ws rs k s) (attemptOf ws rs xs k s) (fateOf ws k s)
   unfolding attemptOf
-  attempt-fate = attempted-bears xs k s (outputsOf ws rs k s) ws
+  attempt-fate = attempted-ends xs k s (outputsOf ws rs k s) ws
 
   -- and "exactly": what is seen of it is that fate and no other
   pub attempt-seen : InRange xs k → SampleInRange s → seen (attemptOf ws rs xs k s) ≡ fateOf ws k s
-  attempt-seen h d = seen-bears xs k s (outputsOf ws rs k s) (takenWord ws k) h d (attemptOf ws rs xs k s) (fateOf ws k s) attempt-fate
+  attempt-seen h d = seen-ends xs k s (outputsOf ws rs k s) (takenWord ws k) h d (attemptOf ws rs xs k s) (fateOf ws k s) attempt-fate

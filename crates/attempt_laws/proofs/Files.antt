@@ -15,10 +15,10 @@ use Rattle.alu.specs.declared.Kind.{Kind}
 use Rattle.alu.proofs.Laws.{result-byte}
 use Rattle.choose.proofs.Choice.{pick-all}
 use Rattle.choose.proofs.Tests.{both-left, both-right, bit-le}
-use Rattle.state.specs.File.{slotOf, registerOf, writtenOf}
+use Rattle.state.specs.File.{Leaves, slotOf, registerOf, writtenOf}
 use Rattle.state.proofs.Laws.{written-length, written-same, written-other}
-use Rattle.cycles.specs.Cycles.{Made, operandOf, stepOf, oneCycleOf, oneThenOther, twoCyclesOf}
-use Rattle.cycles.specs.declared.Names.{Names}
+use Rattle.cycles.specs.Cycles.{operandOf, stepOf, oneCycleOf, oneThenOther, twoCyclesOf}
+use Rattle.cycles.specs.declared.Designators.{Designators}
 use Rattle.cycles.specs.declared.Operand.{Operand}
 use Rattle.cycles.specs.declared.Plan.{Plan}
 
@@ -92,7 +92,7 @@ operand-byte (Operand.Number n) ra rb true t ha hb = omega (arith, ltb→lt n 65
 operand-byte (Operand.Number n) ra rb false t ha hb = omega arith
 
 module _ (g : ℕ) (f : Flags) (plan : Plan) (t : T (planFits plan)) where
-  step-in-range : (xs : List ℕ) (at : Names) (carry high : Bool) → FileInRange xs → FileInRange (stepOf xs g f plan at carry high .file)
+  step-in-range : (xs : List ℕ) (at : Designators) (carry high : Bool) → FileInRange xs → FileInRange (stepOf xs g f plan at carry high .file)
   unfolding stepOf
   step-in-range xs at carry high h =
       let ra = register-byte xs g (at .a) h in
@@ -101,15 +101,15 @@ module _ (g : ℕ) (f : Flags) (plan : Plan) (t : T (planFits plan)) where
       let q = operand-byte (plan .q) _ _ high (both-right (fits (plan .p)) (fits (plan .q)) t) ra rb in
       pick-all FileInRange (plan .stores) _ xs (written-in-range xs g (at .a) _ h (cycle-byte (plan .kind) _ _ carry f p q)) h
 
-  pub one-cycle-in-range : (xs : List ℕ) (at : Names) (odd : Bool) → FileInRange xs → FileInRange (oneCycleOf xs g f plan at odd .file)
+  pub one-cycle-in-range : (xs : List ℕ) (at : Designators) (odd : Bool) → FileInRange xs → FileInRange (oneCycleOf xs g f plan at odd .file)
   unfolding oneCycleOf
   one-cycle-in-range xs at odd h = step-in-range xs at (plan .carry) false h
 
-  joined-in-range : (xs : List ℕ) (one other : Names) (high odd : Bool) → FileInRange xs → FileInRange (oneThenOther xs g f plan one other high odd .file)
+  joined-in-range : (xs : List ℕ) (one other : Designators) (high odd : Bool) → FileInRange xs → FileInRange (oneThenOther xs g f plan one other high odd .file)
   joined-in-range xs one other high odd h =
       step-in-range _ other _ _ (step-in-range xs one (plan .carry) high h)
 
-  pub two-cycles-in-range : (xs : List ℕ) (low high : Names) (odd : Bool) → FileInRange xs → FileInRange (twoCyclesOf xs g f plan low high odd .file)
+  pub two-cycles-in-range : (xs : List ℕ) (low high : Designators) (odd : Bool) → FileInRange xs → FileInRange (twoCyclesOf xs g f plan low high odd .file)
   unfolding twoCyclesOf
   two-cycles-in-range xs low high odd h =
-      pick-all (λ (m : Made). FileInRange (m .file)) (highFirstOf (plan .kind)) _ _ (joined-in-range xs high low true odd h) (joined-in-range xs low high false odd h)
+      pick-all (λ (m : Leaves Flags). FileInRange (m .file)) (highFirstOf (plan .kind)) _ _ (joined-in-range xs high low true odd h) (joined-in-range xs low high false odd h)

@@ -6,11 +6,11 @@ use mathlib.Core.List.{List, [], _∷_}
 use native.Mathlib.Omega.{arith}
 use lib.Dec.{eqb, leb, ltb}
 use borrow.Author.Tests.{ltb-true, ltb-false, leb-true, le-leb, eq-eqb, eqb-false}
-use Rattle.attempt.specs.Attempt.{Ended, ended, outcomeOf, executedOf, resetOf, outputsOf, attemptOf}
+use Rattle.attempt.specs.Attempt.{outcomeOf, executedOf, resetOf, outputsOf, attemptOf}
 use Rattle.attempt.specs.Effect.{jumpedOf, literalEffect, registerEffect, effectOf}
 use Rattle.choose.specs.Ranged.{pick, ranged}
 use Rattle.code.proofs.Words.{apart-is}
-use Rattle.code.specs.Rows.{classOf, listed}
+use Rattle.code.specs.CodeRows.{classOf, listed}
 use Rattle.code.specs.Word.{topOf, operandsIn, fieldsIn}
 use Rattle.code.specs.declared.Class.{Class}
 use Rattle.control.specs.Bus.{busWith, afterInput, busAfter}
@@ -21,9 +21,11 @@ use Rattle.state.specs.declared.Bus.{Bus}
 use Rattle.state.specs.declared.Core.{Core}
 use Rattle.state.specs.declared.Latches.{Latches}
 use Rattle.state.specs.declared.Sample.{Sample}
-use Rattle.attempt_laws.specs.Fate.{Fate, refused, waited, reset, compute-low, completed, within, bIn, takenWord, fateOf, Bears}
+use Rattle.attempt_laws.specs.Fate.{Fate, refused, waited, reset, compute-low, completed, within, bIn, takenWord, fateOf, EndsAs}
 use Rattle.attempt_laws.specs.Frame.{loadsIcs, loadsG, loadsTr, setsInterrupts, LatchesKept, setsM, dropsLines, changesSync, changesIack, BusKept}
 use Rattle.attempt_laws.proofs.Fate.{attempt-fate}
+use Rattle.state.specs.File.{Leaves, leaves}
+use Rattle.attempt.specs.declared.Outcome.{Outcome}
 
 -- ---- a choice by ranges, where each arm may use that x is in its range
 
@@ -150,10 +152,10 @@ module _ (code b : ℕ) (h : Bus) where
 
 module _ (xs : List ℕ) (k : Core) (s : Sample) (o : Outputs) (word : ℕ) where
   -- what is kept of the latches and of the bus
-  abbrev Framed : Fate → Ended → Type 0
-  Framed f e = LatchesKept f (topOf word) (bIn word) (k .latches) (e .outcome .core .latches) × BusKept f (topOf word) (bIn word) (k .bus) (e .outcome .core .bus)
+  abbrev Framed : Fate → Leaves Outcome → Type 0
+  Framed f e = LatchesKept f (topOf word) (bIn word) (k .latches) (e .back .core .latches) × BusKept f (topOf word) (bIn word) (k .bus) (e .back .core .bus)
 
-  unchanged : (f : Fate) → Framed f (ended xs (outcomeOf k 0 0 0))
+  unchanged : (f : Fate) → Framed f (leaves xs (outcomeOf k 0 0 0))
   unchanged f = (same f _ _ (k .latches) (k .latches .marked) (k .latches .modification), same-bus f _ _ (k .bus))
 
   executed-framed : (c : Class) → listed c ≡ true → Framed completed (executedOf xs k (fieldsIn c word) s o)
@@ -164,24 +166,24 @@ module _ (xs : List ℕ) (k : Core) (s : Sample) (o : Outputs) (word : ℕ) wher
   executed-framed Class.Literal l = (same _ _ _ (k .latches) false 0, same-bus _ _ _ (k .bus))
   executed-framed Class.Register l = (latches-kept _ _ (k .latches) _ _ s, bus-kept _ _ (k .bus) _)
 
-  bears-framed : (e : Ended) (f : Fate) → Bears word xs k s o e f → Framed f e
+  ends-framed : (e : Leaves Outcome) (f : Fate) → EndsAs word xs k s o e f → Framed f e
   unfolding resetOf
-  bears-framed e (refused n) (z, q) = rw q (unchanged (refused n))
-  bears-framed e waited q = rw q (unchanged waited)
-  bears-framed e reset q = rw q (same _ _ _ (k .latches) false 0, record { m = λ z. refl; sync = change refl; iack = change refl })
-  bears-framed e compute-low q = rw q (unchanged compute-low)
-  bears-framed e completed (w, a, q) =
+  ends-framed e (refused n) (z, q) = rw q (unchanged (refused n))
+  ends-framed e waited q = rw q (unchanged waited)
+  ends-framed e reset q = rw q (same _ _ _ (k .latches) false 0, record { m = λ z. refl; sync = change refl; iack = change refl })
+  ends-framed e compute-low q = rw q (unchanged compute-low)
+  ends-framed e completed (w, a, q) =
       let (h, l, p) = apart-is word w a in
       rw (q, ← p) (executed-framed (classOf (topOf word)) l)
 
 module _ (ws : List ℕ) (rs : List Row) (xs : List ℕ) (k : Core) (s : Sample) where
   framed : Framed xs k s (outputsOf ws rs k s) (takenWord ws k) (fateOf ws k s) (attemptOf ws rs xs k s)
-  framed = bears-framed xs k s (outputsOf ws rs k s) (takenWord ws k) (attemptOf ws rs xs k s) (fateOf ws k s) (attempt-fate ws rs xs k s)
+  framed = ends-framed xs k s (outputsOf ws rs k s) (takenWord ws k) (attemptOf ws rs xs k s) (fateOf ws k s) (attempt-fate ws rs xs k s)
 
   -- G, TR, ICS and I4-I6 change only by a completed word of their own list
-  pub attempt-latches : LatchesKept (fateOf ws k s) (topOf (takenWord ws k)) (bIn (takenWord ws k)) (k .latches) (attemptOf ws rs xs k s .outcome .core .latches)
+  pub attempt-latches : LatchesKept (fateOf ws k s) (topOf (takenWord ws k)) (bIn (takenWord ws k)) (k .latches) (attemptOf ws rs xs k s .back .core .latches)
   attempt-latches = framed .0
 
   -- M changes only by a completed word of its list, SYNC and IACK by one of theirs and by RESET
-  pub attempt-bus : BusKept (fateOf ws k s) (topOf (takenWord ws k)) (bIn (takenWord ws k)) (k .bus) (attemptOf ws rs xs k s .outcome .core .bus)
+  pub attempt-bus : BusKept (fateOf ws k s) (topOf (takenWord ws k)) (bIn (takenWord ws k)) (k .bus) (attemptOf ws rs xs k s .back .core .bus)
   attempt-bus = framed .1

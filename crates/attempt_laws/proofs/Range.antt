@@ -17,21 +17,23 @@ use Rattle.rows.specs.declared.Row.{Row}
 use Rattle.numbers.specs.Numbers.{pairOf}
 use Rattle.numbers.proofs.Laws.{byte-below, bytes-each}
 use Rattle.rows.proofs.Laws.{scan-in-range}
-use Rattle.state.specs.File.{registerOf}
+use Rattle.state.specs.File.{Leaves, registerOf}
 use Rattle.state.specs.Range.{InRange, SampleInRange}
 use Rattle.state.specs.declared.Address.{Address}
 use Rattle.state.specs.declared.Bus.{Bus}
 use Rattle.state.specs.declared.Core.{Core}
 use Rattle.state.specs.declared.Latches.{Latches}
 use Rattle.state.specs.declared.Sample.{Sample}
-use Rattle.attempt.specs.Attempt.{Ended, executedOf, resetOf, outputsOf, attemptOf}
-use Rattle.attempt.specs.Effect.{Effected, jumpedOf, literalEffect, registerEffect, effectOf}
+use Rattle.attempt.specs.Attempt.{executedOf, resetOf, outputsOf, attemptOf}
+use Rattle.attempt.specs.Effect.{jumpedOf, literalEffect, registerEffect, effectOf}
 use Rattle.choose.proofs.Choice.{pick-all}
 use Rattle.attempt_laws.proofs.Files.{FileInRange, register-byte}
 use Rattle.attempt_laws.proofs.Registers.{literal-in-range, registers-in-range}
 use Rattle.attempt_laws.proofs.Control.{BusInRange, RequestInRange, LatchesInRange, WayInRange, AddressInRange, bus-in-range, request-in-range, used-in-range, latches-in-range, way-in-range, address-in-range}
 use Rattle.attempt_laws.proofs.Cases.{attempt-all}
 use Rattle.code.specs.Word.{Fit, jump, conditional, literal, register, WellFormed}
+use Rattle.attempt.specs.declared.Effect.{Effect}
+use Rattle.attempt.specs.declared.Outcome.{Outcome}
 
 -- ---- the state by its parts
 
@@ -71,12 +73,12 @@ module _ (xs : List ℕ) (k : Core) (h : InRange xs k) where
 
 -- ---- an instruction's effect
 
-record EffectInRange (e : Effected) : Type 0 where
+record EffectInRange (e : Leaves Effect) : Type 0 where
   file : FileInRange (e .file)
-  bus : BusInRange (e .effect .bus)
-  latches : LatchesInRange (e .effect .latches)
-  way : WayInRange (e .effect .way)
-  request : RequestInRange (e .effect .request)
+  bus : BusInRange (e .back .bus)
+  latches : LatchesInRange (e .back .latches)
+  way : WayInRange (e .back .way)
+  request : RequestInRange (e .back .request)
 
 module _ (xs : List ℕ) (k : Core) (s : Sample) (code : ℕ) (h : InRange xs k) (d : SampleInRange s) where
   jumped-in-range : (n : ℕ) → n < 2048 → EffectInRange (effectOf xs k code (Operands.Jump n) s)
@@ -127,11 +129,11 @@ module _ (xs : List ℕ) (k : Core) (s : Sample) (code : ℕ) (h : InRange xs k)
 -- ---- an executed word
 
 module _ (xs : List ℕ) (k : Core) (s : Sample) (o : Outputs) (w : Fields) (h : InRange xs k) (d : SampleInRange s) (f : WellFormed w) where
-  pub executed-request : RequestInRange (executedOf xs k w s o .outcome .request)
+  pub executed-request : RequestInRange (executedOf xs k w s o .back .request)
   unfolding executedOf
   executed-request = effect-in-range xs k s (w .code) h d (f .fitting) .request
 
-  executed-in-range : OutputsInRange o → InRange (executedOf xs k w s o .file) (executedOf xs k w s o .outcome .core)
+  executed-in-range : OutputsInRange o → InRange (executedOf xs k w s o .file) (executedOf xs k w s o .back .core)
   unfolding executedOf
   executed-in-range p =
       let e = effect-in-range xs k s (w .code) h d (f .fitting) in
@@ -149,9 +151,9 @@ module _ (ws : List ℕ) (rs : List Row) (xs : List ℕ) (k : Core) (s : Sample)
 
   -- the words are any: an attempt refuses one of 2^22 or more
   pub attempt-in-range : rowsInRange rs ≡ true → InRange xs k → SampleInRange s
-      → InRange (attemptOf ws rs xs k s .file) (attemptOf ws rs xs k s .outcome .core)
+      → InRange (attemptOf ws rs xs k s .file) (attemptOf ws rs xs k s .back .core)
   attempt-in-range r h d =
-      attempt-all (λ (e : Ended). InRange (e .file) (e .outcome .core)) ws rs xs k s
+      attempt-all (λ (e : Leaves Outcome). InRange (e .file) (e .back .core)) ws rs xs k s
       (record {
         refuses = λ n. h;
         waits = h;
@@ -161,9 +163,9 @@ module _ (ws : List ℕ) (rs : List Row) (xs : List ℕ) (k : Core) (s : Sample)
       })
 
   -- a request's kind is at most 12, and its value has 16 bits
-  pub attempt-request : InRange xs k → SampleInRange s → attemptOf ws rs xs k s .outcome .request < 13 * 65536
+  pub attempt-request : InRange xs k → SampleInRange s → attemptOf ws rs xs k s .back .request < 13 * 65536
   attempt-request h d =
-      attempt-all (λ (e : Ended). e .outcome .request < 13 * 65536) ws rs xs k s
+      attempt-all (λ (e : Leaves Outcome). e .back .request < 13 * 65536) ws rs xs k s
       (record {
         refuses = λ n. omega arith;
         waits = omega arith;

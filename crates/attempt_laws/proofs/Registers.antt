@@ -6,13 +6,12 @@ use mathlib.Core.List.{List}
 use native.Mathlib.Omega.{arith}
 use lib.Dec.{T, eqb, ltb, lt→ltb}
 use Rattle.alu.specs.declared.Flags.{Flags}
-use Rattle.state.specs.File.{highOf}
+use Rattle.state.specs.File.{Leaves, highOf}
 use Rattle.state.proofs.Digits.{flag-byte-below}
 use Rattle.state.specs.declared.Core.{Core}
-use Rattle.cycles.specs.Cycles.{Made}
 use Rattle.cycles.specs.declared.Plan.{Plan}
 use Rattle.plan.specs.Plan.{plans, planOf, conditionMet, literalPlanOf}
-use Rattle.execute.specs.Execute.{names, literalOf, copiedOf, steppedByOf, seventiesOf, workedOf, workOf, upperOf, selectedOf, inputOf, accessOf, registersOf}
+use Rattle.execute.specs.Execute.{designators, literalOf, copiedOf, steppedByOf, codes70To77Of, operationOf, conditionedOf, upperOf, selectedOf, inputOf, accessOf, registersOf}
 use Rattle.choose.proofs.Choice.{end, _also_, pick-all, ranged-all, tested}
 use Rattle.attempt_laws.proofs.Files.{FileInRange, planFits, written-in-range, one-cycle-in-range, two-cycles-in-range}
 
@@ -38,7 +37,7 @@ selected-fits dal m b h = pick-all (λ (n : ℕ). n < 65536) (upperOf m b) _ _ (
 
 -- ---- instructions
 
-abbrev Keeps : Made → Type 0
+abbrev Keeps : Leaves Flags → Type 0
 Keeps m = FileInRange (m .file)
 
 module _ (xs : List ℕ) (g : ℕ) (f : Flags) (h : FileInRange xs) where
@@ -46,7 +45,7 @@ module _ (xs : List ℕ) (g : ℕ) (f : Flags) (h : FileInRange xs) where
   unfolding literalOf
   literal-in-range code v a l =
       pick-all Keeps (eqb (code / 16) 3) _ _ h
-      (one-cycle-in-range g f _ (literal-plan-fits code v (lt→ltb v 65536 l)) xs (names a a) false h)
+      (one-cycle-in-range g f _ (literal-plan-fits code v (lt→ltb v 65536 l)) xs (designators a a) false h)
 
   copied-in-range : (a : ℕ) → Keeps (copiedOf xs g f a)
   unfolding copiedOf
@@ -54,39 +53,39 @@ module _ (xs : List ℕ) (g : ℕ) (f : Flags) (h : FileInRange xs) where
 
   stepped-by-in-range : (a by : ℕ) → T (ltb by 65536) → Keeps (steppedByOf xs g f a by)
   unfolding steppedByOf
-  stepped-by-in-range a by t = one-cycle-in-range g f _ t xs (names a a) false h
+  stepped-by-in-range a by t = one-cycle-in-range g f _ t xs (designators a a) false h
 
-  seventies-in-range : (code b a : ℕ) → Keeps (seventiesOf xs g f code b a)
-  unfolding seventiesOf
-  seventies-in-range code b a =
+  codes-70-to-77-in-range : (code b a : ℕ) → Keeps (codes70To77Of xs g f code b a)
+  unfolding codes70To77Of
+  codes-70-to-77-in-range code b a =
       ranged-all Keeps code _ (h also copied-in-range a also h also h also stepped-by-in-range a 0 tt also end) (stepped-by-in-range a 255 tt)
 
-  worked-in-range : (code b a : ℕ) → Keeps (workedOf xs g f code b a)
-  unfolding workedOf
+  worked-in-range : (code b a : ℕ) → Keeps (operationOf xs g f code b a)
+  unfolding operationOf
   worked-in-range code b a =
       let t = plan-fits code f in
       pick-all Keeps (eqb (code / 2 % 2) 0) _ _
-      (one-cycle-in-range g f _ t xs (names a b) _ h)
-      (two-cycles-in-range g f _ t xs (names a b) (names (highOf a) (highOf b)) _ h)
+      (one-cycle-in-range g f _ t xs (designators a b) _ h)
+      (two-cycles-in-range g f _ t xs (designators a b) (designators (highOf a) (highOf b)) _ h)
 
-  work-in-range : (ics : Bool) (code b a : ℕ) → Keeps (workOf xs g f ics code b a)
-  unfolding workOf
+  work-in-range : (ics : Bool) (code b a : ℕ) → Keeps (conditionedOf xs g f ics code b a)
+  unfolding conditionedOf
   work-in-range ics code b a = pick-all Keeps (conditionMet code (f .c) ics) _ _ (worked-in-range code b a) h
 
   input-in-range : (code dal m b a : ℕ) → dal < 65536 → Keeps (inputOf xs g f code dal m b a)
   unfolding inputOf
   input-in-range code dal m b a l =
       pick-all Keeps (eqb (code / 2 % 2) 0) _ _
-      (one-cycle-in-range g f _ (lt→ltb (selectedOf dal m b) 65536 (selected-fits dal m b l)) xs (names a a) _ h)
-      (two-cycles-in-range g f _ (lt→ltb dal 65536 l) xs (names a a) (names (highOf a) (highOf a)) _ h)
+      (one-cycle-in-range g f _ (lt→ltb (selectedOf dal m b) 65536 (selected-fits dal m b l)) xs (designators a a) _ h)
+      (two-cycles-in-range g f _ (lt→ltb dal 65536 l) xs (designators a a) (designators (highOf a) (highOf a)) _ h)
 
   access-in-range : (code b a : ℕ) → Keeps (accessOf xs g f code b a)
   unfolding accessOf
   access-in-range code b a =
       let t = pick-all (λ (n : ℕ). T (ltb n 65536)) (eqb (code / 4 % 2) 0) 1 2 tt tt in
       pick-all Keeps (eqb (code / 2 % 2) 0) _ _
-      (one-cycle-in-range g f _ t xs (names a a) false h)
-      (two-cycles-in-range g f _ t xs (names a a) (names b b) false h)
+      (one-cycle-in-range g f _ t xs (designators a a) false h)
+      (two-cycles-in-range g f _ t xs (designators a a) (designators b b) false h)
 
 pub registers-in-range : (xs : List ℕ) (core : Core) (dal code b a : ℕ) → FileInRange xs → dal < 65536 → Keeps (registersOf xs core dal code b a)
 unfolding registersOf
@@ -94,7 +93,7 @@ registers-in-range xs core dal code b a h l =
     let g = core .latches .g in
     let f = core .flags in
     ranged-all Keeps code _
-    (seventies-in-range xs g f h code b a also
+    (codes-70-to-77-in-range xs g f h code b a also
     work-in-range xs g f h (core .latches .ics) code b a also
     input-in-range xs g f h code dal (core .bus .m) b a l also
     h also

@@ -13,8 +13,10 @@ use Rattle.code.specs.declared.Fields.{Fields}
 use Rattle.rows.specs.declared.Outputs.{Outputs}
 use Rattle.state.specs.declared.Core.{Core}
 use Rattle.state.specs.declared.Sample.{Sample}
-use Rattle.attempt.specs.Attempt.{Ended, ended, outcomeOf, executedOf, resetOf, modifiedOf}
+use Rattle.attempt.specs.Attempt.{outcomeOf, executedOf, resetOf, modifiedOf}
 use Rattle.numbers.specs.Numbers.{wordAt}
+use Rattle.state.specs.File.{Leaves, leaves}
+use Rattle.attempt.specs.declared.Outcome.{Outcome}
 
 pub data Fate : Type 0 where
   refused : ℕ → Fate
@@ -110,16 +112,16 @@ fateOf ws k s =
 
 -- "Numbers 5-8 return the state before the refused attempt"; "A wait costs 1, changes nothing and has kind 10"; RESET "kind 11", COMPUTE low "nothing
 -- changes (kind 12). Both cost 1"; and else the taken word is executed, with the rows' outputs o
-abbrev pub Bears : ℕ → List ℕ → Core → Sample → Outputs → Ended → Fate → Type 0
-Bears word xs k s o e (refused n) = (n ≡ 0 → ⊥) × (e ≡ ended xs (outcomeOf k 0 0 n))
-Bears word xs k s o e waited = e ≡ ended xs (outcomeOf k (10 * 65536) 1 0)
-Bears word xs k s o e reset = e ≡ ended xs (outcomeOf (resetOf k) (11 * 65536) 1 0)
-Bears word xs k s o e compute-low = e ≡ ended xs (outcomeOf k (12 * 65536) 1 0)
-Bears word xs k s o e completed = (w : Fields) × (apartOf word ≡ Apart.Word w) × (e ≡ executedOf xs k w s o)
+abbrev pub EndsAs : ℕ → List ℕ → Core → Sample → Outputs → Leaves Outcome → Fate → Type 0
+EndsAs word xs k s o e (refused n) = (n ≡ 0 → ⊥) × (e ≡ leaves xs (outcomeOf k 0 0 n))
+EndsAs word xs k s o e waited = e ≡ leaves xs (outcomeOf k (10 * 65536) 1 0)
+EndsAs word xs k s o e reset = e ≡ leaves xs (outcomeOf (resetOf k) (11 * 65536) 1 0)
+EndsAs word xs k s o e compute-low = e ≡ leaves xs (outcomeOf k (12 * 65536) 1 0)
+EndsAs word xs k s o e completed = (w : Fields) × (apartOf word ≡ Apart.Word w) × (e ≡ executedOf xs k w s o)
 
 -- the fate that a caller sees, from the refusal's number and the request's kind: a completed attempt has refusal 0 and a kind from 0 to 9
-unfoldable pub seen : Ended → Fate
+unfoldable pub seen : Leaves Outcome → Fate
 seen e =
-    pick (eqb (e .outcome .refusal) 0)
-    (ranged (e .outcome .request / 65536) ((10, completed) ∷ (11, waited) ∷ (12, reset) ∷ []) compute-low)
-    (refused (e .outcome .refusal))
+    pick (eqb (e .back .refusal) 0)
+    (ranged (e .back .request / 65536) ((10, completed) ∷ (11, waited) ∷ (12, reset) ∷ []) compute-low)
+    (refused (e .back .refusal))

@@ -5,9 +5,8 @@ use mathlib.Core.List.{List, [], _∷_}
 use lib.Dec.{eqb}
 use lib.ListN.{getD, set, replicate}
 use Rattle.alu.specs.declared.Flags.{Flags}
-use Rattle.cycles.specs.Cycles.{Made}
 use Rattle.execute.specs.Execute.{registersOf}
-use Rattle.state.specs.File.{slotOf}
+use Rattle.state.specs.File.{Leaves, slotOf}
 use Rattle.state.specs.declared.Core.{Core}
 
 pub data Flag : Type 0 where
@@ -46,8 +45,8 @@ unfoldable pub shows : Flags → List (Flag × Bool) → Bool
 shows f [] = true
 shows f (m ∷ ms) = Bool·beq (flagOf (m .0) f) (m .1) && shows f ms
 
-unfoldable pub worked : Made → ℕ → List (Flag × Bool) → Bool
-worked m result flags = eqb (getD (m .file) 12 0 + 256 * getD (m .file) 13 0) result && shows (m .flags) flags
+unfoldable pub worked : Leaves Flags → ℕ → List (Flag × Bool) → Bool
+worked m result flags = eqb (getD (m .file) 12 0 + 256 * getD (m .file) 13 0) result && shows (m .back) flags
 
 unfoldable pub caseHolds : Case → Bool
 caseHolds (works code ra rb c result flags) = worked (registersOf (file ra rb) (core c) 0 code 4 2) result flags

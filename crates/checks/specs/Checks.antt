@@ -4,7 +4,7 @@ use mathlib.Core.Bool.{Bool, false, not, _&&_, _||_}
 use mathlib.Core.List.{[], _∷_}
 use lib.Dec.{eqb, ltb}
 use Rattle.choose.specs.Ranged.{pick, ranged}
-use Rattle.code.specs.Rows.{pairsOf, waitsOf, optionsOf}
+use Rattle.code.specs.CodeRows.{pairsOf, waitsOf, optionsOf}
 use Rattle.code.specs.declared.Operands.{Operands}
 use Rattle.state.specs.declared.Sample.{Sample}
 

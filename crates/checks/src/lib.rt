@@ -2,7 +2,7 @@
 use code::Operands;
 use state::Sample;
 ghost use mathlib.Core.Path.{_≡_};
-ghost use Rattle.code.specs.Rows.{cyclesOf, pairsOf, waitsOf, optionsOf};
+ghost use Rattle.code.specs.CodeRows.{cyclesOf, pairsOf, waitsOf, optionsOf};
 ghost use Rattle.checks.specs.Checks.{oddDesignatorOf, designatorRefusalOf, wordRefusalOf, waitingOf};
 
 pub fn cycles(code: u8) -> u8

@@ -8,13 +8,14 @@ use Rattle.choose.specs.Ranged.{bit, ranged}
 use Rattle.choose.specs.Below.{allEqual}
 use Rattle.choose.proofs.Table.{all-equal, at}
 use Rattle.choose.proofs.Tests.{is-bit}
-use Rattle.code.specs.Rows.{classNumber, classAt, rowOfEntry, entries, rowOf, classOf, cyclesOf, pairsOf, waitsOf, optionsOf, statusFlagsOf, conditionFlagsOf, storesOf}
+use Rattle.code.specs.CodeRows.{classNumber, rowOf, classOf, cyclesOf, pairsOf, waitsOf, optionsOf, statusFlagsOf, conditionFlagsOf, storesOf}
+use Rattle.code.specs.Entries.{classAt, rowOfEntry, entries}
 use Rattle.code.specs.Word.{codeOf}
 use Rattle.code.specs.declared.Class.{Class}
-use Rattle.code.specs.declared.Row.{Row}
+use Rattle.code.specs.declared.CodeRow.{CodeRow}
 
 -- each digit of an entry, beside the field that it has to be
-abbrev digits : Row → ℕ → List (ℕ × ℕ)
+abbrev digits : CodeRow → ℕ → List (ℕ × ℕ)
 digits r n =
     (n % 0x10, classNumber (r .class)) ∷
     (n / 0x10 % 0x10, r .cycles) ∷
@@ -33,7 +34,7 @@ numbered Class.Conditional = refl
 numbered Class.Literal = refl
 numbered Class.Register = refl
 
-by-digits : (r : Row) (n : ℕ) → T (allEqual (digits r n)) → rowOfEntry n ≡ r
+by-digits : (r : CodeRow) (n : ℕ) → T (allEqual (digits r n)) → rowOfEntry n ≡ r
 unfolding rowOfEntry
 by-digits r n t =
     let e = all-equal (digits r n) t in

@@ -9,7 +9,7 @@ use Rattle.choose.specs.Ranged.{pick, ranged}
 use Rattle.choose.specs.Below.{countBelow}
 use Rattle.choose.proofs.Table.{below}
 use Rattle.choose.proofs.Tests.{equal-tests}
-use Rattle.code.specs.Rows.{classOf, listed, unlisted, among}
+use Rattle.code.specs.CodeRows.{classOf, listed, unlisted, among}
 use Rattle.code.specs.Word.{topOf, codeOf, fieldsIn, apartOf, numberOf, wellFormed, wordOf, togetherOf, WellFormed}
 use Rattle.code.specs.declared.Fields.{Fields}
 use Rattle.code.specs.declared.Apart.{Apart}

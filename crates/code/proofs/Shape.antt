@@ -5,7 +5,8 @@ use mathlib.Core.Bool.{true, false≢true}
 use native.Mathlib.Omega.{arith}
 use lib.Dec.{ltb}
 use borrow.Author.Tests.{lt-ltb, ltb-true, eqb-true}
-use Rattle.code.specs.Rows.{listed, classNumber, classAt}
+use Rattle.code.specs.CodeRows.{listed, classNumber}
+use Rattle.code.specs.Entries.{classAt}
 use Rattle.choose.proofs.Tests.{both-true}
 use Rattle.code.specs.Word.{topOf, codeIn, operandsIn, fitsIn, reachOf, same, lowOf, Fit, jump, conditional, literal, register}
 use Rattle.code.specs.declared.Class.{Class}

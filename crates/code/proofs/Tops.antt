@@ -9,7 +9,7 @@ use Rattle.choose.specs.Below.{allBelow}
 use Rattle.choose.proofs.Ranged.{in-rest}
 use Rattle.choose.proofs.Table.{below}
 use Rattle.choose.proofs.Tests.{holds}
-use Rattle.code.specs.Rows.{classOf, classes, listed}
+use Rattle.code.specs.CodeRows.{classOf, classes, listed}
 use Rattle.code.specs.Word.{codeOf, same}
 use Rattle.code.specs.declared.Class.{Class}
 use Rattle.code.proofs.Shape.{strideOf, same-class}

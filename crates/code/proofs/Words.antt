@@ -6,7 +6,7 @@ use native.Mathlib.Omega.{arith}
 use lib.Dec.{ltb}
 use borrow.Author.Tests.{lt-ltb, ltb-true, eq-eqb, eqb-true}
 use Rattle.choose.specs.Ranged.{bit, pick}
-use Rattle.code.specs.Rows.{classOf, listed, classNumber}
+use Rattle.code.specs.CodeRows.{classOf, listed, classNumber}
 use Rattle.choose.proofs.Tests.{both-true, bit-le, is-bit, bit-is}
 use Rattle.code.specs.Word.{topOf, codeOf, codeIn, fieldsIn, apartOf, wellFormed, lowOf, wordOf, WellFormed, Fit}
 use Rattle.code.specs.declared.Class.{Class}

@@ -1,2 +1,3 @@
-pub mod Rows
+pub mod CodeRows
+pub mod Entries
 pub mod Word

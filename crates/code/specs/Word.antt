@@ -4,7 +4,7 @@ use mathlib.Core.Path.{_≡_}
 use mathlib.Core.Bool.{Bool, _&&_}
 use lib.Dec.{eqb, ltb}
 use Rattle.choose.specs.Ranged.{bit, pick}
-use Rattle.code.specs.Rows.{classOf, listed, classNumber}
+use Rattle.code.specs.CodeRows.{classOf, listed, classNumber}
 use Rattle.code.specs.declared.Class.{Class}
 use Rattle.code.specs.declared.Operands.{Operands}
 use Rattle.code.specs.declared.Fields.{Fields}

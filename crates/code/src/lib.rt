@@ -3,7 +3,8 @@ use choose::bit_of;
 ghost use mathlib.Core.Path.{_≡_};
 ghost use Prim.Native.Nat.{_<_};
 ghost use lib.ListN.{getD};
-ghost use Rattle.code.specs.Rows.{classOf, classAt, listed, classNumber, rowOf, rowOfEntry, entries};
+ghost use Rattle.code.specs.CodeRows.{classOf, listed, classNumber, rowOf};
+ghost use Rattle.code.specs.Entries.{classAt, rowOfEntry, entries};
 ghost use Rattle.code.specs.Word.{codeIn, operandsIn, apartOf, same, reachOf, fitsIn, wellFormed, lowOf, togetherOf};
 
 mod table;
@@ -18,7 +19,7 @@ pub enum Class {
 }
 
 // What the top byte alone decides. All fields of an unlisted one are 0.
-pub struct Row {
+pub struct CodeRow {
     pub class: Class,
     pub cycles: u8,
     // 1: a has to be even; 3: a and b have to be.
@@ -102,13 +103,13 @@ fn class_at(n: u32) -> Class
 }
 
 // The row of a top byte in the table that `rows` gave.
-pub fn row_in(rows: &[u32; 256], top: u8) -> Row
+pub fn row_in(rows: &[u32; 256], top: u8) -> CodeRow
     ensures { λ r. ⌜ r ≡ rowOfEntry (getD (now (rows .entry)) top 0) ⌝ }
 {
     let i = top as usize;
     let n = rows[i];
     let class = class_at(n % 0x10);
-    Row {
+    CodeRow {
         class,
         cycles: (n / 0x10 % 0x10) as u8,
         pairs: (n / 0x100 % 0x10) as u8,
@@ -119,7 +120,7 @@ pub fn row_in(rows: &[u32; 256], top: u8) -> Row
     }
 }
 
-pub fn row_of(top: u8) -> Row
+pub fn row_of(top: u8) -> CodeRow
     ensures { λ r. ⌜ r ≡ rowOf top ⌝ }
 {
     let table = rows();

@@ -18,8 +18,8 @@ abbrev pub withLoaded : Latches → ℕ → ℕ → Bool → Latches
 withLoaded l g tr ics = record { g = g; tr = tr; ics = ics; interrupts = l .interrupts; marked = false; modification = 0 }
 
 -- "MI sets the next": marked, also where the bits are 0
-abbrev pub waiting : Latches → ℕ → Latches
-waiting l n = record { g = l .g; tr = l .tr; ics = l .ics; interrupts = l .interrupts; marked = true; modification = n }
+abbrev pub withModification : Latches → ℕ → Latches
+withModification l n = record { g = l .g; tr = l .tr; ics = l .ics; interrupts = l .interrupts; marked = true; modification = n }
 
 -- "IW b mod 4: 1, 2, 3 load TR; 1 also loads G from DAL 6-4, 2 from DAL 8-6"; "ICS is loaded from the sample by IW with b mod 4 not 0"
 unfoldable pub inputLatchesOf : Latches → ℕ → ℕ → Bool → Latches
@@ -38,7 +38,7 @@ latchesAfter l code b ra pair sample =
     (0xE2, used l) ∷
     (0xE4, inputLatchesOf l b (sample .dal) (sample .ics)) ∷  -- IW
     (0xEC, used l) ∷
-    (0xEE, waiting l pair) ∷  -- MI
+    (0xEE, withModification l pair) ∷  -- MI
     (0xF0, withLoaded l (l .g) pair (l .ics)) ∷  -- LTR
     [])
     (used l)

@@ -9,7 +9,7 @@ use state::Latches;
 use state::Sample;
 ghost use mathlib.Core.Path.{_≡_};
 ghost use Rattle.control.specs.Bus.{busWith, afterInput, busAfter, placed, requestOf};
-ghost use Rattle.control.specs.Latches.{used, withInterrupts, waiting, withLoaded, inputLatchesOf, latchesAfter};
+ghost use Rattle.control.specs.Latches.{used, withInterrupts, withModification, withLoaded, inputLatchesOf, latchesAfter};
 ghost use Rattle.control.specs.Next.{conditionOf, jumpTaken, withinPage, wayOf, trByteOf, inputsOf, plusOne, onwardOf, nextOf, rrOf, tsrOf, addressAfter};
 
 fn bus_with(m: u16, sync: bool, iack: bool) -> Bus
@@ -119,8 +119,8 @@ fn input_latches(l: Latches, b: u8, dal: u16, ics: bool) -> Latches
 }
 
 // MI: the modification of the next word waits, marked.
-fn waiting(l: Latches, modification: u16) -> Latches
-    ensures { λ r. ⌜ r ≡ waiting l modification ⌝ }
+fn with_modification(l: Latches, modification: u16) -> Latches
+    ensures { λ r. ⌜ r ≡ withModification l modification ⌝ }
 {
     Latches {
         g: l.g,
@@ -144,7 +144,7 @@ pub fn latches_after(l: Latches, code: u8, b: u8, ra: u8, pair: u16, sample: Sam
         0x76..=0xE1 => used(l),
         0xE2..=0xE3 => input_latches(l, b, sample.dal, sample.ics),
         0xE4..=0xEB => used(l),
-        0xEC..=0xED => waiting(l, pair),
+        0xEC..=0xED => with_modification(l, pair),
         0xEE..=0xEF => with_loaded(l, l.g, pair, l.ics),
         _ => used(l),
     }

@@ -3,7 +3,8 @@ use alu::Cycle;
 use alu::Flags;
 use alu::Kind;
 ghost use mathlib.Core.Path.{_≡_};
-ghost use Rattle.cycles.specs.Cycles.{operandOf, stepped, stepOf, made, oneCycleOf, twoCyclesOf};
+ghost use Rattle.cycles.specs.Cycles.{operandOf, stepOf, oneCycleOf, twoCyclesOf};
+ghost use Rattle.state.specs.File.{leaves};
 
 // What a cycle takes for an operand: Ra, Rb, or a byte of a number, its low byte in a low cycle.
 pub enum Operand {
@@ -22,7 +23,7 @@ pub struct Plan {
 }
 
 // The designators of one cycle.
-pub struct Names {
+pub struct Designators {
     pub a: u8,
     pub b: u8,
 }
@@ -47,11 +48,11 @@ fn step(
     g: u8,
     f: Flags,
     plan: Plan,
-    at: Names,
+    at: Designators,
     carry: bool,
     high: bool,
 ) -> Cycle
-    ensures { λ r. ⌜ stepped (now (file .exit)) r ≡ stepOf (now (file .entry)) g f plan at carry high ⌝ }
+    ensures { λ r. ⌜ leaves (now (file .exit)) r ≡ stepOf (now (file .entry)) g f plan at carry high ⌝ }
 {
     let ra = state::register(file, g, at.a);
     let rb = state::register(file, g, at.b);
@@ -68,8 +69,15 @@ fn step(
     y
 }
 
-pub fn one_cycle(file: &mut [u8; 26], g: u8, f: Flags, plan: Plan, at: Names, odd: bool) -> Flags
-    ensures { λ r. ⌜ made (now (file .exit)) r ≡ oneCycleOf (now (file .entry)) g f plan at odd ⌝ }
+pub fn one_cycle(
+    file: &mut [u8; 26],
+    g: u8,
+    f: Flags,
+    plan: Plan,
+    at: Designators,
+    odd: bool,
+) -> Flags
+    ensures { λ r. ⌜ leaves (now (file .exit)) r ≡ oneCycleOf (now (file .entry)) g f plan at odd ⌝ }
 {
     let y = step(file, g, f, plan, at, plan.carry, false);
     alu::after_byte(f, y, odd)
@@ -80,11 +88,11 @@ pub fn two_cycles(
     g: u8,
     f: Flags,
     plan: Plan,
-    low: Names,
-    high: Names,
+    low: Designators,
+    high: Designators,
     odd: bool,
 ) -> Flags
-    ensures { λ r. ⌜ made (now (file .exit)) r ≡ twoCyclesOf (now (file .entry)) g f plan low high odd ⌝ }
+    ensures { λ r. ⌜ leaves (now (file .exit)) r ≡ twoCyclesOf (now (file .entry)) g f plan low high odd ⌝ }
 {
     let kind = plan.kind;
     if alu::high_first(kind) {

@@ -7,13 +7,15 @@ use native.Mathlib.Omega.{arith}
 use native.Mathlib.Numerals.{add-one}
 use lib.ListN.{length}
 use borrow.Author.Tests.{eq-eqb, ne-eqb}
-use Rattle.attempt.specs.Attempt.{Ended, attemptOf}
+use Rattle.attempt.specs.Attempt.{attemptOf}
 use Rattle.attempt_laws.proofs.Refusal.{refusal-keeps}
 use Rattle.deck.specs.Elements.{sampleAt}
 use Rattle.rows.specs.declared.Row.{Row}
 use Rattle.state.specs.declared.Core.{Core}
 use Rattle.state.specs.declared.Sample.{Sample}
 use Rattle.engine.specs.Run.{World, world, put4Of, steppedOf, stoppedOf, runFrom, samplesFrom}
+use Rattle.state.specs.File.{Leaves}
+use Rattle.attempt.specs.declared.Outcome.{Outcome}
 
 pub samples-length : (s : List ℕ) (n i : ℕ) → length (samplesFrom s i n) ≡ n
 unfolding samplesFrom
@@ -34,15 +36,15 @@ samples-end s i n l =
     rw e
 
 module _ (ws : List ℕ) (rs : List Row) where
-  pub run-cons : (s : Sample) (ss : List Sample) (w : World) (e : Ended) → e ≡ attemptOf ws rs (w .file) (w .core) s → e .outcome .refusal ≡ 0
+  pub run-cons : (s : Sample) (ss : List Sample) (w : World) (e : Leaves Outcome) → e ≡ attemptOf ws rs (w .file) (w .core) s → e .back .refusal ≡ 0
       → runFrom ws rs (s ∷ ss) w ≡ runFrom ws rs ss (steppedOf w e)
   unfolding runFrom
-  run-cons s ss w e made h = rw (← made, eq-eqb (e .outcome .refusal) 0 h)
+  run-cons s ss w e made h = rw (← made, eq-eqb (e .back .refusal) 0 h)
 
-  run-stop : (s : Sample) (ss : List Sample) (w : World) (e : Ended) → e ≡ attemptOf ws rs (w .file) (w .core) s → (e .outcome .refusal ≡ 0 → ⊥)
-      → runFrom ws rs (s ∷ ss) w ≡ stoppedOf w (e .outcome .refusal)
+  run-stop : (s : Sample) (ss : List Sample) (w : World) (e : Leaves Outcome) → e ≡ attemptOf ws rs (w .file) (w .core) s → (e .back .refusal ≡ 0 → ⊥)
+      → runFrom ws rs (s ∷ ss) w ≡ stoppedOf w (e .back .refusal)
   unfolding runFrom
-  run-stop s ss w e made h = rw (← made, ne-eqb (e .outcome .refusal) 0 h)
+  run-stop s ss w e made h = rw (← made, ne-eqb (e .back .refusal) 0 h)
 
   run-none : (w : World) → runFrom ws rs [] w ≡ w
   unfolding runFrom
@@ -61,14 +63,14 @@ module _ (ws : List ℕ) (rs : List Row) where
     pub ends : n ≤ i → left ≡ world xs k 0 i c b
     ends l = rw (samples-end samples i n l) (run-none (world xs k 0 i c b))
 
-    module _ (e : Ended) (made : e ≡ attemptOf ws rs xs k (sampleAt samples i)) (l : i < n) where
-      pub goes-on : e .outcome .refusal ≡ 0
-          → left ≡ runFrom ws rs (samplesFrom samples (i + 1) (n - (i + 1))) (world (e .file) (e .outcome .core) 0 (i + 1) (c + e .outcome .cycles) (put4Of b (i * 4) (e .outcome .request)))
+    module _ (e : Leaves Outcome) (made : e ≡ attemptOf ws rs xs k (sampleAt samples i)) (l : i < n) where
+      pub goes-on : e .back .refusal ≡ 0
+          → left ≡ runFrom ws rs (samplesFrom samples (i + 1) (n - (i + 1))) (world (e .file) (e .back .core) 0 (i + 1) (c + e .back .cycles) (put4Of b (i * 4) (e .back .request)))
       unfolding steppedOf
       goes-on h = rw (samples-step samples i n l) (run-cons (sampleAt samples i) _ (world xs k 0 i c b) e made h)
 
-      pub stops : (e .outcome .refusal ≡ 0 → ⊥) → left ≡ world (e .file) k (e .outcome .refusal) i c b
+      pub stops : (e .back .refusal ≡ 0 → ⊥) → left ≡ world (e .file) k (e .back .refusal) i c b
       unfolding stoppedOf
       stops h =
-          let kept : e .file ≡ xs = ap (λ (x : Ended). x .file) made ∙ refusal-keeps ws rs xs k (sampleAt samples i) (λ z. h (ap (λ (x : Ended). x .outcome .refusal) made ∙ z)) .0 in
+          let kept : e .file ≡ xs = ap (λ (x : Leaves Outcome). x .file) made ∙ refusal-keeps ws rs xs k (sampleAt samples i) (λ z. h (ap (λ (x : Leaves Outcome). x .back .refusal) made ∙ z)) .0 in
           rw (samples-step samples i n l, kept) (run-stop (sampleAt samples i) _ (world xs k 0 i c b) e made h)

@@ -4,12 +4,14 @@ use mathlib.Core.List.{List, [], _∷_}
 use lib.Dec.{eqb}
 use lib.ListN.{set}
 use Rattle.choose.specs.Ranged.{pick}
-use Rattle.attempt.specs.Attempt.{Ended, attemptOf}
+use Rattle.attempt.specs.Attempt.{attemptOf}
 use Rattle.deck.specs.Elements.{sampleAt}
 use Rattle.rows.specs.declared.Row.{Row}
 use Rattle.state.specs.declared.Core.{Core}
 use Rattle.state.specs.declared.Sample.{Sample}
 use Rattle.engine.specs.declared.RunEnd.{RunEnd}
+use Rattle.state.specs.File.{Leaves}
+use Rattle.attempt.specs.declared.Outcome.{Outcome}
 
 -- all that a run has so far: registers and the rest of the state, the answer, the counts, and the request buffer's bytes
 pub record World : Type 0 where
@@ -29,10 +31,10 @@ unfoldable pub put4Of : List ℕ → ℕ → ℕ → List ℕ
 put4Of b at x = set (set (set (set b at (x % 256)) (at + 1) (x / 256 % 256)) (at + 2) (x / 65536 % 256)) (at + 3) (x / 16777216 % 256)
 
 -- an attempt that was not refused: its state, its place, and the counts
-unfoldable pub steppedOf : World → Ended → World
+unfoldable pub steppedOf : World → Leaves Outcome → World
 steppedOf w e =
-    world (e .file) (e .outcome .core) 0 (w .attempts + 1) (w .microcycles + e .outcome .cycles)
-    (put4Of (w .buffer) (w .attempts * 4) (e .outcome .request))
+    world (e .file) (e .back .core) 0 (w .attempts + 1) (w .microcycles + e .back .cycles)
+    (put4Of (w .buffer) (w .attempts * 4) (e .back .request))
 
 -- "Numbers 5-8 return the state before the refused attempt and the counts up to it; the places of earlier attempts are written, the others are untouched"
 unfoldable pub stoppedOf : World → ℕ → World
@@ -43,7 +45,7 @@ unfoldable pub runFrom : List ℕ → List Row → List Sample → World → Wor
 runFrom ws rs [] w = w
 runFrom ws rs (s ∷ ss) w =
     let e = attemptOf ws rs (w .file) (w .core) s in
-    pick (eqb (e .outcome .refusal) 0) (runFrom ws rs ss (steppedOf w e)) (stoppedOf w (e .outcome .refusal))
+    pick (eqb (e .back .refusal) 0) (runFrom ws rs ss (steppedOf w e)) (stoppedOf w (e .back .refusal))
 
 -- n samples of a samples section, from sample i on
 unfoldable pub samplesFrom : List ℕ → ℕ → ℕ → List Sample

@@ -25,7 +25,7 @@ pub struct RunEnd {
     pub microcycles: u32,
 }
 
-fn leaves(core: Core, answer: u8, attempts: usize, microcycles: u32) -> RunEnd
+fn run_end(core: Core, answer: u8, attempts: usize, microcycles: u32) -> RunEnd
     ensures { λ r. ⌜ r ≡ runEnd core answer attempts microcycles ⌝ }
 {
     RunEnd {
@@ -59,14 +59,14 @@ fn attempts(
         let o = attempt::attempt(words, table, m, file, core, s);
         let answer = o.refusal;
         if answer != 0 {
-            return leaves(core, answer, i, microcycles);
+            return run_end(core, answer, i, microcycles);
         }
         put4(requests, i * 4, o.request);
         microcycles += o.cycles as u32;
         core = o.core;
         i += 1;
     }
-    leaves(core, 0, i, microcycles)
+    run_end(core, 0, i, microcycles)
 }
 
 #[repr(C)]

@@ -5,8 +5,8 @@ use mathlib.Core.Bool.{Bool·beq}
 use Rattle.choose.specs.Ranged.{ranged}
 use Rattle.choose.proofs.Table.{below}
 use Rattle.choose.proofs.Tests.{equal-tests}
-use Rattle.code.specs.Rows.{classOf, listed}
-use Rattle.names.specs.Names.{mnemonicOf, isNamed}
+use Rattle.code.specs.CodeRows.{classOf, listed}
+use Rattle.names.specs.Mnemonics.{mnemonicOf, isNamed}
 
 pub named-listed : (top : ℕ) → top < 0x100 → isNamed top ≡ listed (classOf top)
 unfolding mnemonicOf classOf ranged

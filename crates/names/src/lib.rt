@@ -1,6 +1,6 @@
 // The mnemonic of each top byte: four letters, the first in the highest byte, spaces at the end.
 ghost use mathlib.Core.Path.{_≡_};
-ghost use Rattle.names.specs.Names.{mnemonicOf, allMnemonics};
+ghost use Rattle.names.specs.Mnemonics.{mnemonicOf, allMnemonics};
 
 mod table;
 

@@ -2,7 +2,7 @@
 // the number of vectors of each top byte, 256 bytes.
 use code::Apart;
 use code::Class;
-use code::Row;
+use code::CodeRow;
 use libc::STDIN_FILENO;
 use libc::STDOUT_FILENO;
 
@@ -128,7 +128,7 @@ fn refusals(pairs: u8, options: u8) {
     }
 }
 
-fn facts(row: Row) {
+fn facts(row: CodeRow) {
     number(row.cycles);
     say(b" | ");
     status(row.flags);
@@ -161,7 +161,7 @@ fn checked(top: u8, vectors: u8) {
 }
 
 // Designators 0 and the first option are refused by 6 only: that is CAD, which never completes.
-fn requirement(top: u8, row: Row, refusal: u8, vectors: u8) {
+fn requirement(top: u8, row: CodeRow, refusal: u8, vectors: u8) {
     let class = row.class;
     say(b"| ");
     key(top);

@@ -10,14 +10,14 @@ use borrow.Author.Tests.{eqb-true, eqb-false, ltb-true, lt-ltb}
 use lib.Bits.{or-lt}
 use lib.Dec.{eqb, ltb}
 use lib.ListN.{length}
-use Rattle.attempt.specs.Attempt.{Ended, modifiedOf, refused, triedOf, takenOf, fetchedOf, attemptedOf, outputsOf, attemptOf}
+use Rattle.attempt.specs.Attempt.{modifiedOf, whenRefused, checkedOf, takenOf, fetchedOf, attemptedOf, outputsOf, attemptOf}
 use Rattle.choose.proofs.Choice.{pick-all}
 use Rattle.numbers.specs.Numbers.{wordAt}
 use Rattle.attempt_laws.proofs.Range.{attempt-in-range}
 use Rattle.attempt_laws.proofs.Refusal.{executes}
 use Rattle.checks.specs.Checks.{oddDesignatorOf, designatorRefusalOf, wordRefusalOf, waitingOf}
 use Rattle.choose.specs.Ranged.{pick}
-use Rattle.code.specs.Rows.{classOf, listed, optionsOf}
+use Rattle.code.specs.CodeRows.{classOf, listed, optionsOf}
 use Rattle.code.specs.Word.{topOf, apartOf}
 use Rattle.code.specs.declared.Apart.{Apart}
 use Rattle.code.specs.declared.Fields.{Fields}
@@ -31,12 +31,14 @@ use Rattle.state.specs.declared.Core.{Core}
 use Rattle.state.specs.declared.Latches.{Latches}
 use Rattle.state.specs.declared.Sample.{Sample}
 use Rattle.run_laws.specs.Laws.{SamplesInRange, WordsInRange, Number, Counted}
+use Rattle.state.specs.File.{Leaves}
+use Rattle.attempt.specs.declared.Outcome.{Outcome}
 
 -- ---- how many samples are used
 
 -- an attempt, and v after the n samples that are left
-one-counts : (n : ℕ) (w : World) (e : Ended) (v : World) → Counted n (steppedOf w e) v → (t : Bool) → eqb (e .outcome .refusal) 0 ≡ t
-    → Counted (suc n) w (pick t v (stoppedOf w (e .outcome .refusal)))
+one-counts : (n : ℕ) (w : World) (e : Leaves Outcome) (v : World) → Counted n (steppedOf w e) v → (t : Bool) → eqb (e .back .refusal) 0 ≡ t
+    → Counted (suc n) w (pick t v (stoppedOf w (e .back .refusal)))
 unfolding steppedOf stoppedOf
 one-counts n w e v c true q = record { full = λ z. omega (arith, c .full z); short = λ z. omega (arith, c .short z) }
 one-counts n w e v c false q = record { full = λ z. absurd (eqb-false _ 0 q z); short = λ z. omega arith }
@@ -48,7 +50,7 @@ module _ (ws : List ℕ) (rs : List Row) where
   run-counts [] w e = record { full = λ z. omega arith; short = λ z. absurd (z e) }
   run-counts (s ∷ ss) w e =
       let x = attemptOf ws rs (w .file) (w .core) s in
-      one-counts (length ss) w x (runFrom ws rs ss (steppedOf w x)) (run-counts ss (steppedOf w x) refl) (eqb (x .outcome .refusal) 0) refl
+      one-counts (length ss) w x (runFrom ws rs ss (steppedOf w x)) (run-counts ss (steppedOf w x) refl) (eqb (x .back .refusal) 0) refl
 
   -- 0 exactly when "all samples used"
   pub run-zero : (ss : List Sample) (w : World) → w .answer ≡ 0
@@ -86,12 +88,12 @@ modified-below w l h m =
     h
 
 module _ (xs : List ℕ) (k : Core) (s : Sample) (o : Outputs) where
-  abbrev Numbered : Ended → Type 0
-  Numbered e = Number (e .outcome .refusal)
+  abbrev Numbered : Leaves Outcome → Type 0
+  Numbered e = Number (e .back .refusal)
 
-  tried-number : (w : Fields) → Numbered (triedOf xs k w s o)
-  unfolding triedOf
-  tried-number w =
+  checked-number : (w : Fields) → Numbered (checkedOf xs k w s o)
+  unfolding checkedOf
+  checked-number w =
       pick-all Numbered (eqb (wordRefusalOf (w .code) (w .operands)) 0) _ _
       (pick-all Numbered (waitingOf (w .code) s) _ _ (λ z. absurd (z refl)) (λ z. absurd (z (executes xs k w s o))))
       (check-number (w .code) (w .operands))
@@ -100,7 +102,7 @@ module _ (xs : List ℕ) (k : Core) (s : Sample) (o : Outputs) where
   unfolding apartOf
   taken-number w h =
       rw (lt-ltb w 0x40_0000 h)
-      (pick-all (λ (a : Apart). Numbered (takenOf a o xs k s)) (listed (classOf (topOf w))) _ _ (tried-number _) (λ z. (omega arith, omega arith)))
+      (pick-all (λ (a : Apart). Numbered (takenOf a o xs k s)) (listed (classOf (topOf w))) _ _ (checked-number _) (λ z. (omega arith, omega arith)))
 
   fetched-number : (ws : List ℕ) → WordsInRange ws → k .latches .modification < 65536 → Numbered (fetchedOf ws o xs k s)
   unfolding fetchedOf
@@ -110,7 +112,7 @@ module _ (xs : List ℕ) (k : Core) (s : Sample) (o : Outputs) where
       lc = k .address .lc
 
       go : (t : Bool) → ltb lc (length ws / 4) ≡ t
-          → Numbered (pick t (takenOf (apartOf (modifiedOf (wordAt ws lc) (k .latches))) o xs k s) (refused xs k 5))
+          → Numbered (pick t (takenOf (apartOf (modifiedOf (wordAt ws lc) (k .latches))) o xs k s) (whenRefused xs k 5))
       go true q = taken-number _ (modified-below (wordAt ws lc) (k .latches) (h lc (ltb-true _ _ q)) m)
       go false q = λ z. (omega arith, omega arith)
 
@@ -122,7 +124,7 @@ module _ (xs : List ℕ) (k : Core) (s : Sample) (o : Outputs) where
 
 -- "then at each attempt 5, 6, 7, 8": an attempt is refused with no other number
 pub attempt-number : (ws : List ℕ) (rs : List Row) (xs : List ℕ) (k : Core) (s : Sample)
-    → WordsInRange ws → k .latches .modification < 65536 → Number (attemptOf ws rs xs k s .outcome .refusal)
+    → WordsInRange ws → k .latches .modification < 65536 → Number (attemptOf ws rs xs k s .back .refusal)
 unfolding attemptOf
 attempt-number ws rs xs k s = attempted-number xs k s (outputsOf ws rs k s) ws
 
@@ -133,6 +135,6 @@ unfolding runFrom steppedOf stoppedOf
 run-number ws rs g r [] d w h e = λ z. absurd (z e)
 run-number ws rs g r (s ∷ ss) d w h e =
     let x = attemptOf ws rs (w .file) (w .core) s in
-    pick-all (λ (v : World). Number (v .answer)) (eqb (x .outcome .refusal) 0) _ _
+    pick-all (λ (v : World). Number (v .answer)) (eqb (x .back .refusal) 0) _ _
     (run-number ws rs g r ss (d .1) (steppedOf w x) (attempt-in-range ws rs (w .file) (w .core) s r h (d .0)) refl)
     (attempt-number ws rs (w .file) (w .core) s g (h .modification))

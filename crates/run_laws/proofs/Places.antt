@@ -21,8 +21,8 @@ run-places ws rs (s ∷ ss) w =
     let x = attemptOf ws rs (w .file) (w .core) s in
     let p = run-places ws rs ss (steppedOf w x) in
     let at = w .attempts * 4 in
-    let n = x .outcome .request in
-    pick-all (Placed w) (eqb (x .outcome .refusal) 0) _ _
+    let n = x .back .request in
+    pick-all (Placed w) (eqb (x .back .refusal) 0) _ _
     (record {
       size = p .size ∙ put-length (w .buffer) at n;
       onward = omega (arith, p .onward);

@@ -22,6 +22,6 @@ unfolding runFrom steppedOf stoppedOf
 run-in-range ws rs r [] d w h = h
 run-in-range ws rs r (s ∷ ss) d w h =
     let e = attemptOf ws rs (w .file) (w .core) s in
-    pick-all (λ (v : World). InRange (v .file) (v .core)) (eqb (e .outcome .refusal) 0) _ _
+    pick-all (λ (v : World). InRange (v .file) (v .core)) (eqb (e .back .refusal) 0) _ _
     (run-in-range ws rs r ss (d .1) (steppedOf w e) (attempt-in-range ws rs (w .file) (w .core) s r h (d .0)))
     h

@@ -51,7 +51,7 @@ passes v number u false q l = absurd (omega arith)
 module _ (ws : List ℕ) (rs : List Row) (ss ts : List Sample) (s : Sample) where
   -- what the samples ss leave, and the attempt after them
   abbrev Passed : World → ℕ → Type 0
-  Passed v n = (v .answer ≡ 0) × (v .attempts ≡ n) × (attemptOf ws rs (v .file) (v .core) s .outcome .refusal ≡ 0)
+  Passed v n = (v .answer ≡ 0) × (v .attempts ≡ n) × (attemptOf ws rs (v .file) (v .core) s .back .refusal ≡ 0)
 
   -- a run that made more attempts than ss has samples used them all, and was not refused at the next
   went-on : (w : World) → w .answer ≡ 0 → w .attempts + length ss < runFrom ws rs (ss ++ (s ∷ ts)) w .attempts → Passed (runFrom ws rs ss w) (w .attempts + length ss)
@@ -69,7 +69,7 @@ module _ (ws : List ℕ) (rs : List Row) (ss ts : List Sample) (s : Sample) wher
           let a = eqb-true _ _ q in
           let full = counted .full a in
           let e = attemptOf ws rs (v .file) (v .core) s in
-          (a, full, passes v (e .outcome .refusal) (runFrom ws rs ts (steppedOf v e)) _ refl (omega arith))
+          (a, full, passes v (e .back .refusal) (runFrom ws rs ts (steppedOf v e)) _ refl (omega arith))
       go false q m = absurd (omega (arith, counted .short (eqb-false _ 0 q)))
 
 -- a run of all samples of a section, from its first place on
@@ -94,7 +94,7 @@ module _ (ws : List ℕ) (rs : List Row) (r : rowsInRange rs ≡ true) (s : List
   section-written : (i : ℕ) → i < whole .attempts
       → let v = runFrom ws rs (samplesFrom s 0 i) w in
       let e = attemptOf ws rs (v .file) (v .core) (sampleAt s i) in
-      (e .outcome .refusal ≡ 0) × (quadAt (whole .buffer) (i * 4) ≡ e .outcome .request)
+      (e .back .refusal ≡ 0) × (quadAt (whole .buffer) (i * 4) ≡ e .back .request)
   unfolding samplesFrom
   section-written i l =
       let ss = samplesFrom s 0 i in

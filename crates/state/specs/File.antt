@@ -5,6 +5,15 @@ use lib.Dec.{ltb, leb}
 use lib.ListN.{getD, set}
 use Rattle.choose.specs.Ranged.{pick}
 
+-- what something leaves in the register file, and what it gives back: a cycle, flags, an effect, an outcome
+pub record Leaves (A : Type 0) : Type 0 where
+  pub file : List ℕ
+  pub back : A
+
+module _ {A : Type 0} where
+  abbrev pub leaves : List ℕ → A → Leaves A
+  leaves xs a = record { file = xs; back = a }
+
 -- G0-GB stand at 0-11; "GC-GF are RC-RF", at 22-25
 abbrev pub gSlot : ℕ → ℕ
 gSlot j = pick (ltb j 12) j (10 + j)

@@ -1,4 +1,4 @@
 pub mod File
 pub mod FlagByte
 pub mod Range
-pub mod Names
+pub mod Registers

@@ -8,12 +8,12 @@ use lib.Dec.{eqb, ltb}
 use lib.ListN.{length}
 use borrow.Author.Tests.{lt-ltb, le-ltb}
 use Rattle.alu.specs.declared.Flags.{Flags}
-use Rattle.attempt.specs.Attempt.{Ended, ended, outcomeOf, executedOf, triedOf, modifiedOf, fetchedOf, attemptedOf, outputsOf, attemptOf}
+use Rattle.attempt.specs.Attempt.{outcomeOf, executedOf, checkedOf, modifiedOf, fetchedOf, attemptedOf, outputsOf, attemptOf}
 use Rattle.numbers.specs.Numbers.{wordAt}
 use Rattle.attempt.specs.Effect.{registerEffect, effectOf}
 use Rattle.checks.specs.Checks.{oddDesignatorOf, designatorRefusalOf, wordRefusalOf}
 use Rattle.choose.specs.Ranged.{bit, pick}
-use Rattle.code.specs.Rows.{classOf}
+use Rattle.code.specs.CodeRows.{classOf}
 use Rattle.code.specs.Word.{operandsIn, fieldsIn, apartOf}
 use Rattle.code.specs.declared.Apart.{Apart}
 use Rattle.code.specs.declared.Class.{Class}
@@ -21,7 +21,6 @@ use Rattle.code.specs.declared.Fields.{Fields}
 use Rattle.code.specs.declared.Operands.{Operands}
 use Rattle.control.specs.Latches.{used}
 use Rattle.control.specs.Next.{addressAfter, nextOf, onwardOf, rrOf, tsrOf, plusOne}
-use Rattle.cycles.specs.Cycles.{Made}
 use Rattle.rows.proofs.Laws.{scan-none}
 use Rattle.rows.specs.Scan.{none}
 use Rattle.state.specs.declared.Core.{Core}
@@ -31,6 +30,8 @@ use Rattle.sums.specs.Sums.{Step, Sign, stepCode, instructionOf, isPair,
 use Rattle.sums.specs.Sums.Step.{byte, pair}
 use Rattle.sums.proofs.Codes.{cycles, pairs, options, goes-on, bus-kept, latches-kept, no-request, no-rtsr, working, class, no-cad, word-bit, stepCarry}
 use Rattle.sums.proofs.Cycles.{Fits, stepMade, step-is}
+use Rattle.state.specs.File.{Leaves, leaves}
+use Rattle.attempt.specs.declared.Outcome.{Outcome}
 
 -- ---- the word
 
@@ -83,8 +84,8 @@ coreAfter k f loads =
       latches = used (k .latches);
     }
 
-abbrev pub endedAt : Core → Made → Bool → Bool → Ended
-endedAt k m loads wide = ended (m .file) (outcomeOf (coreAfter k (m .flags) loads) 0 (1 + bit wide) 0)
+abbrev pub endedAt : Core → Leaves Flags → Bool → Bool → Leaves Outcome
+endedAt k m loads wide = leaves (m .file) (outcomeOf (coreAfter k (m .back) loads) 0 (1 + bit wide) 0)
 
 executed-is : (sign : Sign) (later : Bool) (t : Step) (xs : List ℕ) (k : Core) (s : Sample) (w : ℕ) → Fits t
     → executedOf xs k (fieldsAt w (stepCode sign later (isPair t)) (sourceOf t) (targetOf t)) s none
@@ -103,11 +104,11 @@ executed-is sign later t xs k s w h =
       no-rtsr c r,
     )
 
-tried-is : (sign : Sign) (later : Bool) (t : Step) (xs : List ℕ) (k : Core) (s : Sample) (w : ℕ) → Fits t
-    → triedOf xs k (fieldsAt w (stepCode sign later (isPair t)) (sourceOf t) (targetOf t)) s none
+checked-is : (sign : Sign) (later : Bool) (t : Step) (xs : List ℕ) (k : Core) (s : Sample) (w : ℕ) → Fits t
+    → checkedOf xs k (fieldsAt w (stepCode sign later (isPair t)) (sourceOf t) (targetOf t)) s none
     ≡ endedAt k (stepMade sign xs (k .latches .g) (stepCarry sign later (k .flags)) t) (eqb (w / 0x1_0000 % 2) 1) (isPair t)
-unfolding triedOf
-tried-is sign later t xs k s w h =
+unfolding checkedOf
+checked-is sign later t xs k s w h =
     rw (refusal-none sign later t h, goes-on (stepCode sign later (isPair t)) (working sign later (isPair t)) s) (executed-is sign later t xs k s w h)
 
 -- ---- fetched
@@ -133,7 +134,7 @@ unfolding modifiedOf
 unmodified w l e = rw e
 
 -- RESET low and COMPUTE high
-picked : (r c : Bool) (a b d : Ended) → r ≡ false → c ≡ true → pick r a (pick c b d) ≡ b
+picked : (r c : Bool) (a b d : Leaves Outcome) → r ≡ false → c ≡ true → pick r a (pick c b d) ≡ b
 picked r c a b d e h = rw (e, h)
 
 pub attempt-is : (sign : Sign) (later : Bool) (t : Step) (ws xs : List ℕ) (k : Core) (s : Sample) → Fits t
@@ -152,4 +153,4 @@ attempt-is sign later t ws xs k s h l u e m c r =
       unmodified w (k .latches) m,
       apart-is w (stepCode sign later (isPair t)) (sourceOf t) (targetOf t) (class sign later (isPair t)) u (fits-b t h) (fits-a t h) e,
     )
-    (tried-is sign later t xs k s w h)
+    (checked-is sign later t xs k s w h)

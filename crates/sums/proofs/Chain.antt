@@ -13,12 +13,11 @@ use Rattle.alu.proofs.Laws.{result-byte}
 use Rattle.alu.specs.Numbers.{value, sumBytes, ones}
 use Rattle.alu.specs.declared.Cycle.{Cycle}
 use Rattle.alu.specs.declared.Flags.{Flags}
-use Rattle.cycles.specs.Cycles.{Made, made}
 use Rattle.engine.specs.Run.{World}
 use Rattle.numbers.specs.Numbers.{Bytes}
 use Rattle.numbers.proofs.Laws.{set-bytes}
 use Rattle.state.proofs.Laws.{written-length, written-same, written-other, slot-is}
-use Rattle.state.specs.File.{slotOf, registerOf, writtenOf}
+use Rattle.state.specs.File.{Leaves, leaves, slotOf, registerOf, writtenOf}
 use Rattle.sums.specs.Sums.{Step, Cut, Sign, targets, sources, Absent, Different, registersAt, lastTargets, Elsewhere}
 use Rattle.sums.specs.Sums.Sign.{plus, minus}
 use Rattle.sums.specs.Sums.Step.{byte, pair}
@@ -28,27 +27,27 @@ use Rattle.sums.proofs.Run.{stepOn, after}
 
 -- ---- the registers and the flags of a run, without the rest
 
-abbrev pub cutMade : Sign → List ℕ → ℕ → Bool → Cut → Flags → Made
-cutMade sign xs g c [] f = made xs f
-cutMade sign xs g c (t ∷ ts) f = let m = stepMade sign xs g c t in cutMade sign (m .file) g (m .flags .c8) ts (m .flags)
+abbrev pub cutMade : Sign → List ℕ → ℕ → Bool → Cut → Flags → Leaves Flags
+cutMade sign xs g c [] f = leaves xs f
+cutMade sign xs g c (t ∷ ts) f = let m = stepMade sign xs g c t in cutMade sign (m .file) g (m .back .c8) ts (m .back)
 
 -- C8 is the next step's carry in: C, or what C is the complement of
 next-carry : (sign : Sign) (xs : List ℕ) (g : ℕ) (c : Bool) (t : Step)
-    → stepCarry sign true (stepMade sign xs g c t .flags) ≡ stepMade sign xs g c t .flags .c8
+    → stepCarry sign true (stepMade sign xs g c t .back) ≡ stepMade sign xs g c t .back .c8
 next-carry plus xs g c (byte a b) = refl
 next-carry plus xs g c (pair a b) = refl
 next-carry minus xs g c (byte a b) = Bool·not-not _
 next-carry minus xs g c (pair a b) = Bool·not-not _
 
 pub made-is : (sign : Sign) (later : Bool) (cut : Cut) (ws : List ℕ) (w : World)
-    → made (after sign later cut ws w .file) (after sign later cut ws w .core .flags)
+    → leaves (after sign later cut ws w .file) (after sign later cut ws w .core .flags)
     ≡ cutMade sign (w .file) (w .core .latches .g) (stepCarry sign later (w .core .flags)) cut (w .core .flags)
 made-is sign later [] ws w = refl
 made-is sign later (t ∷ ts) ws w =
     let g = w .core .latches .g in
     let m = stepMade sign (w .file) g (stepCarry sign later (w .core .flags)) t in
     made-is sign true ts ws (stepOn sign later t ws w)
-    ∙ ap (λ (c : Bool). cutMade sign (m .file) g c ts (m .flags)) (next-carry sign (w .file) g (stepCarry sign later (w .core .flags)) t)
+    ∙ ap (λ (c : Bool). cutMade sign (m .file) g c ts (m .back)) (next-carry sign (w .file) g (stepCarry sign later (w .core .flags)) t)
 
 -- ---- byte cycles on two lists of registers
 
@@ -67,19 +66,19 @@ chainLast sign y xs g c (a ∷ ds) (b ∷ bs) =
 pub file-is : (sign : Sign) (xs : List ℕ) (g : ℕ) (c : Bool) (cut : Cut) (f : Flags)
     → cutMade sign xs g c cut f .file ≡ chainFile sign xs g c (targets cut) (sources cut)
 file-is sign xs g c [] f = refl
-file-is sign xs g c (byte a b ∷ ts) f = let m = stepMade sign xs g c (byte a b) in file-is sign (m .file) g (m .flags .c8) ts (m .flags)
-file-is sign xs g c (pair a b ∷ ts) f = let m = stepMade sign xs g c (pair a b) in file-is sign (m .file) g (m .flags .c8) ts (m .flags)
+file-is sign xs g c (byte a b ∷ ts) f = let m = stepMade sign xs g c (byte a b) in file-is sign (m .file) g (m .back .c8) ts (m .back)
+file-is sign xs g c (pair a b ∷ ts) f = let m = stepMade sign xs g c (pair a b) in file-is sign (m .file) g (m .back .c8) ts (m .back)
 
 -- the flags are the last cycle's, and what the last step makes Z
 pub flags-are : (sign : Sign) (xs : List ℕ) (g : ℕ) (c : Bool) (cut : Cut) (f : Flags) (y : Cycle) → f ≡ oddCodeFlags y (f .z)
-    → cutMade sign xs g c cut f .flags ≡ oddCodeFlags (chainLast sign y xs g c (targets cut) (sources cut)) (cutMade sign xs g c cut f .flags .z)
+    → cutMade sign xs g c cut f .back ≡ oddCodeFlags (chainLast sign y xs g c (targets cut) (sources cut)) (cutMade sign xs g c cut f .back .z)
 flags-are sign xs g c [] f y e = e
 flags-are sign xs g c (byte a b ∷ ts) f y e =
     let m = stepMade sign xs g c (byte a b) in
-    flags-are sign (m .file) g (m .flags .c8) ts (m .flags) (cycleAt sign xs g c a b) refl
+    flags-are sign (m .file) g (m .back .c8) ts (m .back) (cycleAt sign xs g c a b) refl
 flags-are sign xs g c (pair a b ∷ ts) f y e =
     let m = stepMade sign xs g c (pair a b) in
-    flags-are sign (m .file) g (m .flags .c8) ts (m .flags)
+    flags-are sign (m .file) g (m .back .c8) ts (m .back)
     (cycleAt sign (fileAt sign xs g c a b) g (cycleAt sign xs g c a b .c8) (suc a) (suc b)) refl
 
 -- ---- registers that no cycle writes
@@ -214,12 +213,12 @@ two-zero p r = go (eqb p 0) refl (eqb r 0) refl
 
 pub zero-is : (sign : Sign) (xs : List ℕ) (g : ℕ) (c : Bool) (cut : Cut) (f : Flags) (ds : List ℕ) → length xs ≡ 26
     → Separate g (targets cut) (sources cut) → f .z ≡ eqb (value (registersAt xs g ds)) 0
-    → cutMade sign xs g c cut f .flags .z ≡ eqb (value (registersAt (cutMade sign xs g c cut f .file) g (lastTargets ds cut))) 0
+    → cutMade sign xs g c cut f .back .z ≡ eqb (value (registersAt (cutMade sign xs g c cut f .file) g (lastTargets ds cut))) 0
 zero-is sign xs g c [] f ds l h e = e
 zero-is sign xs g c (byte a b ∷ ts) f ds l h e =
     let m = stepMade sign xs g c (byte a b) in
     let y = cycleAt sign xs g c a b in
-    zero-is sign (m .file) g (y .c8) ts (m .flags) (a ∷ []) (written-length xs g a (y .result) ∙ l)
+    zero-is sign (m .file) g (y .c8) ts (m .back) (a ∷ []) (written-length xs g a (y .result) ∙ l)
     (separate-tail g (targets ts) b (sources ts) (h .2))
     (rw (written-same xs g a (y .result) l) (one-zero (y .result)))
 zero-is sign xs g c (pair a b ∷ ts) f ds l h e =
@@ -230,7 +229,7 @@ zero-is sign xs g c (pair a b ∷ ts) f ds l h e =
     let k : length ys ≡ 26 = written-length xs g a (y .result) ∙ l in
     let low : registersAt (m .file) g (a ∷ []) ≡ y .result ∷ []
     = registers-kept ys g (suc a) (z .result) (a ∷ []) ((λ q. h .0 .0 (sym q)), tt) ∙ ap (λ (n : ℕ). n ∷ []) (written-same xs g a (y .result) l) in
-    zero-is sign (m .file) g (z .c8) ts (m .flags) (a ∷ suc a ∷ []) (written-length ys g (suc a) (z .result) ∙ k)
+    zero-is sign (m .file) g (z .c8) ts (m .back) (a ∷ suc a ∷ []) (written-length ys g (suc a) (z .result) ∙ k)
     (separate-tail g (targets ts) (suc b) (sources ts) (separate-tail g (targets ts) b (suc b ∷ sources ts) (h .2 .2)))
     (two-zero (y .result) (z .result)
     ∙ ap (λ (n : List ℕ). eqb (value n) 0)

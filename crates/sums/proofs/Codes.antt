@@ -11,16 +11,16 @@ use Rattle.alu.specs.declared.Kind.{Kind}
 use Rattle.checks.specs.Checks.{waitingOf}
 use Rattle.choose.proofs.Ranged.{in-arm}
 use Rattle.choose.specs.Ranged.{bit, ranged}
-use Rattle.code.specs.Rows.{classOf, cyclesOf, pairsOf, waitsOf, optionsOf, wordBit}
+use Rattle.code.specs.CodeRows.{classOf, cyclesOf, pairsOf, waitsOf, optionsOf, wordBit}
 use Rattle.code.specs.declared.Class.{Class}
 use Rattle.control.specs.Bus.{busAfter, requestOf}
 use Rattle.control.specs.Latches.{used, latchesAfter}
-use Rattle.cycles.specs.Cycles.{Made, oneCycleOf, twoCyclesOf}
+use Rattle.cycles.specs.Cycles.{oneCycleOf, twoCyclesOf}
 use Rattle.cycles.specs.declared.Operand.{Operand}
 use Rattle.cycles.specs.declared.Plan.{Plan}
-use Rattle.execute.specs.Execute.{names, registersOf, workOf, workedOf}
+use Rattle.execute.specs.Execute.{designators, registersOf, conditionedOf, operationOf}
 use Rattle.plan.specs.Plan.{planWith, planOf, conditionMet}
-use Rattle.state.specs.File.{highOf}
+use Rattle.state.specs.File.{Leaves, highOf}
 use Rattle.state.specs.declared.Bus.{Bus}
 use Rattle.state.specs.declared.Core.{Core}
 use Rattle.state.specs.declared.Latches.{Latches}
@@ -120,13 +120,13 @@ kindOf minus = Kind.Subtract
 abbrev pub planFor : Sign → Bool → Plan
 planFor sign c = planWith (kindOf sign) Operand.A Operand.B c true
 
-abbrev pub planned : List ℕ → Core → Plan → ℕ → ℕ → Bool → Made
-planned xs k plan b a false = oneCycleOf xs (k .latches .g) (k .flags) plan (names a b) true
-planned xs k plan b a true = twoCyclesOf xs (k .latches .g) (k .flags) plan (names a b) (names (highOf a) (highOf b)) true
+abbrev pub planned : List ℕ → Core → Plan → ℕ → ℕ → Bool → Leaves Flags
+planned xs k plan b a false = oneCycleOf xs (k .latches .g) (k .flags) plan (designators a b) true
+planned xs k plan b a true = twoCyclesOf xs (k .latches .g) (k .flags) plan (designators a b) (designators (highOf a) (highOf b)) true
 
 pub cycles-are : (sign : Sign) (later wide : Bool) (xs : List ℕ) (k : Core) (dal b a : ℕ)
     → registersOf xs k dal (stepCode sign later wide) b a ≡ planned xs k (planFor sign (stepCarry sign later (k .flags))) b a wide
-unfolding registersOf workOf conditionMet workedOf planOf ranged
+unfolding registersOf conditionedOf conditionMet operationOf planOf ranged
 cycles-are sign later wide xs k dal b a =
     each (λ sign later wide c. registersOf xs k dal c b a ≡ planned xs k (planFor sign (stepCarry sign later (k .flags))) b a wide)
     refl refl refl refl refl refl refl refl sign later wide

@@ -8,10 +8,10 @@ use Rattle.alu.specs.Cycle.{addOf, subtractOf, cycleOf}
 use Rattle.alu.specs.Marks.{afterOf, afterByteOf, afterWordOf}
 use Rattle.alu.specs.declared.Cycle.{Cycle}
 use Rattle.alu.specs.declared.Flags.{Flags}
-use Rattle.cycles.specs.Cycles.{Made, made, operandOf, stepOf, oneCycleOf, twoCyclesOf}
-use Rattle.execute.specs.Execute.{names, registersOf}
+use Rattle.cycles.specs.Cycles.{operandOf, stepOf, oneCycleOf, twoCyclesOf}
+use Rattle.execute.specs.Execute.{designators, registersOf}
 use Rattle.state.proofs.Laws.{high-is}
-use Rattle.state.specs.File.{registerOf, writtenOf}
+use Rattle.state.specs.File.{Leaves, leaves, registerOf, writtenOf}
 use Rattle.state.specs.declared.Core.{Core}
 use Rattle.sums.specs.Sums.{Step, Sign, stepCode, c8Of, isPair, sourceOf, targetOf}
 use Rattle.sums.specs.Sums.Sign.{plus, minus}
@@ -46,22 +46,22 @@ cycleAt sign xs g c a b = cycleWith sign (registerOf xs g a) (registerOf xs g b)
 abbrev pub fileAt : Sign → List ℕ → ℕ → Bool → ℕ → ℕ → List ℕ
 fileAt sign xs g c a b = writtenOf xs g a (cycleAt sign xs g c a b .result)
 
-abbrev pub stepMade : Sign → List ℕ → ℕ → Bool → Step → Made
-stepMade sign xs g c (byte a b) = let y = cycleAt sign xs g c a b in made (fileAt sign xs g c a b) (oddCodeFlags y (eqb (y .result) 0))
+abbrev pub stepMade : Sign → List ℕ → ℕ → Bool → Step → Leaves Flags
+stepMade sign xs g c (byte a b) = let y = cycleAt sign xs g c a b in leaves (fileAt sign xs g c a b) (oddCodeFlags y (eqb (y .result) 0))
 stepMade sign xs g c (pair a b) =
     let y = cycleAt sign xs g c a b in
     let ys = fileAt sign xs g c a b in
     let z = cycleAt sign ys g (y .c8) (suc a) (suc b) in
-    made (fileAt sign ys g (y .c8) (suc a) (suc b)) (oddCodeFlags z (eqb (y .result) 0 && eqb (z .result) 0))
+    leaves (fileAt sign ys g (y .c8) (suc a) (suc b)) (oddCodeFlags z (eqb (y .result) 0 && eqb (z .result) 0))
 
 one-is : (sign : Sign) (xs : List ℕ) (g : ℕ) (f : Flags) (c : Bool) (a b : ℕ)
-    → oneCycleOf xs g f (planFor sign c) (names a b) true ≡ stepMade sign xs g c (byte a b)
+    → oneCycleOf xs g f (planFor sign c) (designators a b) true ≡ stepMade sign xs g c (byte a b)
 unfolding oneCycleOf stepOf operandOf afterByteOf afterOf
 one-is sign xs g f c a b = rw cycle-is
 
 -- neither kind begins at the high byte
 two-is : (sign : Sign) (xs : List ℕ) (g : ℕ) (f : Flags) (c : Bool) (a b : ℕ)
-    → twoCyclesOf xs g f (planFor sign c) (names a b) (names (suc a) (suc b)) true ≡ stepMade sign xs g c (pair a b)
+    → twoCyclesOf xs g f (planFor sign c) (designators a b) (designators (suc a) (suc b)) true ≡ stepMade sign xs g c (pair a b)
 unfolding twoCyclesOf stepOf operandOf afterWordOf afterOf
 two-is plus xs g f c a b = simp cycle-is
 two-is minus xs g f c a b = simp cycle-is

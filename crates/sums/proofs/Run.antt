@@ -9,7 +9,6 @@ use lib.ListN.{length}
 use Rattle.choose.specs.Ranged.{bit}
 use Rattle.numbers.specs.Numbers.{wordAt}
 use Rattle.control.specs.Next.{plusOne}
-use Rattle.cycles.specs.Cycles.{Made}
 use Rattle.engine.proofs.Runs.{run-cons}
 use Rattle.engine.specs.Run.{World, world, put4Of, steppedOf, runFrom}
 use Rattle.state.specs.declared.Core.{Core}
@@ -18,12 +17,14 @@ use Rattle.sums.specs.Sums.{Step, Cut, Sign, isPair, instructionsOf, InP
 use Rattle.sums.proofs.Attempt.{coreAfter, endedAt, attempt-is}
 use Rattle.sums.proofs.Codes.{stepCarry}
 use Rattle.sums.proofs.Cycles.{Fits, stepMade}
+use Rattle.state.specs.File.{Leaves}
+use Rattle.alu.specs.declared.Flags.{Flags}
 
 -- a step on the world so far, and the steps of a cut
 abbrev pub stepOn : Sign → Bool → Step → List ℕ → World → World
 stepOn sign later t ws w =
     let m = stepMade sign (w .file) (w .core .latches .g) (stepCarry sign later (w .core .flags)) t in
-    world (m .file) (coreAfter (w .core) (m .flags) (eqb (wordAt ws (w .core .address .lc) / 0x1_0000 % 2) 1)) 0 (w .attempts + 1)
+    world (m .file) (coreAfter (w .core) (m .back) (eqb (wordAt ws (w .core .address .lc) / 0x1_0000 % 2) 1)) 0 (w .attempts + 1)
     (w .microcycles + (1 + bit (isPair t)))
     (put4Of (w .buffer) (w .attempts * 4) 0)
 
@@ -42,9 +43,9 @@ next-place ws at (i ∷ is) u h =
     let there : plusOne at ≡ at + 1 = omega arith in
     rw there h
 
-stepped-is : (w : World) (k : Core) (m : Made) (loads wide : Bool)
+stepped-is : (w : World) (k : Core) (m : Leaves Flags) (loads wide : Bool)
     → steppedOf w (endedAt k m loads wide)
-    ≡ world (m .file) (coreAfter k (m .flags) loads) 0 (w .attempts + 1) (w .microcycles + (1 + bit wide)) (put4Of (w .buffer) (w .attempts * 4) 0)
+    ≡ world (m .file) (coreAfter k (m .back) loads) 0 (w .attempts + 1) (w .microcycles + (1 + bit wide)) (put4Of (w .buffer) (w .attempts * 4) 0)
 unfolding steppedOf
 stepped-is w k m loads wide = refl
 

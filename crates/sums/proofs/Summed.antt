@@ -10,7 +10,6 @@ use Rattle.alu.proofs.Laws.{sum-bytes}
 use Rattle.alu.specs.Numbers.{value, sumBytes, half}
 use Rattle.alu.specs.declared.Cycle.{Cycle}
 use Rattle.alu.specs.declared.Flags.{Flags}
-use Rattle.cycles.specs.Cycles.{Made, made}
 use Rattle.engine.specs.Run.{World, world, runFrom}
 use Rattle.state.specs.declared.Core.{Core}
 use Rattle.state.specs.declared.Sample.{Sample}
@@ -23,6 +22,7 @@ use Rattle.sums.proofs.Rest.{answer-is, attempts-are, microcycles-are, 
 use Rattle.sums.proofs.Chain.{added, cutMade, made-is, chainFile, file-is, flags-are, chain-length, chain-bytes, chain-other, chain-source, Separate, separate, chain-target, lastCycle, chain-last, zero-is}
 use Rattle.sums.proofs.Numbers.{Last, last-is, result-law, c-law, last-v-law, c4-law, lastByte, sign-law}
 use Rattle.sums.proofs.Given.{low-left, low-right, all-fit, same-length, some-bytes, registers-length, registers-bytes, lc-below}
+use Rattle.state.specs.File.{Leaves, leaves}
 
 -- ---- flags, whatever they were before the first step
 
@@ -35,15 +35,15 @@ abbrev lastOf : Sign → List ℕ → ℕ → Cut → Cycle
 lastOf sign xs g cut = lastCycle sign (before sign) (registersAt xs g (targets cut)) (registersAt xs g (sources cut)) (carryIn sign)
 
 flags-from : (sign : Sign) (xs : List ℕ) (g : ℕ) (cut : Cut) (f : Flags) → 1 ≤ length cut → Separate g (targets cut) (sources cut)
-    → cutMade sign xs g (carryIn sign) cut f .flags ≡ oddCodeFlags (lastOf sign xs g cut) (cutMade sign xs g (carryIn sign) cut f .flags .z)
+    → cutMade sign xs g (carryIn sign) cut f .back ≡ oddCodeFlags (lastOf sign xs g cut) (cutMade sign xs g (carryIn sign) cut f .back .z)
 flags-from sign xs g [] f some h = absurd (omega arith)
 flags-from sign xs g (t ∷ ts) f some h =
     flags-are sign xs g (carryIn sign) (t ∷ ts) (oddCodeFlags (before sign) false) (before sign) refl
-    ∙ ap (λ (y : Cycle). oddCodeFlags y (cutMade sign xs g (carryIn sign) (t ∷ ts) f .flags .z))
+    ∙ ap (λ (y : Cycle). oddCodeFlags y (cutMade sign xs g (carryIn sign) (t ∷ ts) f .back .z))
     (chain-last sign (before sign) xs g (carryIn sign) (targets (t ∷ ts)) (sources (t ∷ ts)) h)
 
 zero-from : (sign : Sign) (xs : List ℕ) (g : ℕ) (cut : Cut) (f : Flags) → 1 ≤ length cut → length xs ≡ 26 → Separate g (targets cut) (sources cut)
-    → cutMade sign xs g (carryIn sign) cut f .flags .z
+    → cutMade sign xs g (carryIn sign) cut f .back .z
     ≡ eqb (value (registersAt (cutMade sign xs g (carryIn sign) cut f .file) g (lastTargets [] cut))) 0
 zero-from sign xs g [] f some l h = absurd (omega arith)
 zero-from sign xs g (t ∷ ts) f some l h = zero-is sign xs g (carryIn sign) (t ∷ ts) (oddCodeFlags (before sign) true) [] l h refl
@@ -70,12 +70,12 @@ module _ (sign : Sign) (cut : Cut) (ws : List ℕ) (ss : List Sample) (xs : List
   pub same-bytes : length (targetBytes xs k cut) ≡ length (sourceBytes xs k cut)
   same-bytes = registers-length xs (k .latches .g) (targets cut) ∙ same-length cut ∙ sym (registers-length xs (k .latches .g) (sources cut))
 
-  made-after : made (stepsOf sign cut ws xs k buffer .file) (stepsOf sign cut ws xs k buffer .core .flags)
+  made-after : leaves (stepsOf sign cut ws xs k buffer .file) (stepsOf sign cut ws xs k buffer .core .flags)
       ≡ cutMade sign xs (k .latches .g) (carryIn sign) cut (k .flags)
   made-after = made-is sign false cut ws (world xs k 0 0 0 buffer)
 
   file-after : stepsOf sign cut ws xs k buffer .file ≡ chainFile sign xs (k .latches .g) (carryIn sign) (targets cut) (sources cut)
-  file-after = ap (λ (m : Made). m .file) made-after ∙ file-is sign xs (k .latches .g) (carryIn sign) cut (k .flags)
+  file-after = ap (λ (m : Leaves Flags). m .file) made-after ∙ file-is sign xs (k .latches .g) (carryIn sign) cut (k .flags)
 
   bytes-after : targetBytes (stepsOf sign cut ws xs k buffer .file) k cut ≡ sumBytes (targetBytes xs k cut) (added sign (sourceBytes xs k cut)) (carryIn sign)
   bytes-after =
@@ -83,15 +83,15 @@ module _ (sign : Sign) (cut : Cut) (ws : List ℕ) (ss : List Sample) (xs : List
       ∙ chain-target sign xs (k .latches .g) (carryIn sign) (targets cut) (sources cut) (h .file) (same-length cut) apart
 
   flags-after : stepsOf sign cut ws xs k buffer .core .flags
-      ≡ oddCodeFlags (lastOf sign xs (k .latches .g) cut) (cutMade sign xs (k .latches .g) (carryIn sign) cut (k .flags) .flags .z)
-  flags-after = ap (λ (m : Made). m .flags) made-after ∙ flags-from sign xs (k .latches .g) cut (k .flags) (h .some) apart
+      ≡ oddCodeFlags (lastOf sign xs (k .latches .g) cut) (cutMade sign xs (k .latches .g) (carryIn sign) cut (k .flags) .back .z)
+  flags-after = ap (λ (m : Leaves Flags). m .back) made-after ∙ flags-from sign xs (k .latches .g) cut (k .flags) (h .some) apart
 
   zero-after : stepsOf sign cut ws xs k buffer .core .flags .z
       ≡ eqb (value (registersAt (stepsOf sign cut ws xs k buffer .file) (k .latches .g) (lastTargets [] cut))) 0
   zero-after =
-      ap (λ (m : Made). m .flags .z) made-after
+      ap (λ (m : Leaves Flags). m .back .z) made-after
       ∙ zero-from sign xs (k .latches .g) cut (k .flags) (h .some) (h .file) apart
-      ∙ ap (λ (m : Made). eqb (value (registersAt (m .file) (k .latches .g) (lastTargets [] cut))) 0) (sym made-after)
+      ∙ ap (λ (m : Leaves Flags). eqb (value (registersAt (m .file) (k .latches .g) (lastTargets [] cut))) 0) (sym made-after)
 
   last-after : Last sign (before sign) (targetBytes xs k cut) (sourceBytes xs k cut) (carryIn sign) (lastOf sign xs (k .latches .g) cut)
   last-after = last-is sign (before sign) (targetBytes xs k cut) (sourceBytes xs k cut) (carryIn sign) same-bytes refl refl

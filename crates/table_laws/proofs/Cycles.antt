@@ -11,10 +11,11 @@ use Rattle.alu.specs.declared.Cycle.{Cycle}
 use Rattle.alu.specs.declared.Flags.{Flags}
 use Rattle.alu.specs.declared.Kind.{Kind}
 use Rattle.choose.proofs.Choice.{pick-all}
-use Rattle.cycles.specs.Cycles.{Made, stepOf, oneCycleOf, oneThenOther, twoCyclesOf}
-use Rattle.cycles.specs.declared.Names.{Names}
+use Rattle.cycles.specs.Cycles.{stepOf, oneCycleOf, oneThenOther, twoCyclesOf}
+use Rattle.cycles.specs.declared.Designators.{Designators}
 use Rattle.cycles.specs.declared.Plan.{Plan}
 use Rattle.table_laws.specs.Table.{FlagsKept, Obeys}
+use Rattle.state.specs.File.{Leaves}
 
 -- moves and logic keep C4, C8 and C
 abbrev pub carries : Kind → Bool
@@ -80,20 +81,20 @@ after-keeps false false f y zero h =
     record { n = λ e. refl; z = λ e. refl; v = λ e. refl; c = λ e. refl; nb = set; zb = set; c4 = set; c8 = set }
 
 -- a plan's own columns, which its cycles obey
-abbrev pub Follows : Plan → Bool → List ℕ → Flags → Made → Type 0
-Follows plan odd xs f m = Obeys (plan .stores) (marks (carries (plan .kind)) odd) xs (m .file) f (m .flags)
+abbrev pub Follows : Plan → Bool → List ℕ → Flags → Leaves Flags → Type 0
+Follows plan odd xs f m = Obeys (plan .stores) (marks (carries (plan .kind)) odd) xs (m .file) f (m .back)
 
 module _ (g : ℕ) (f : Flags) (plan : Plan) where
   -- "Compare and test write no register"
-  step-file : (xs : List ℕ) (at : Names) (carry high : Bool) → plan .stores ≡ false → stepOf xs g f plan at carry high .file ≡ xs
+  step-file : (xs : List ℕ) (at : Designators) (carry high : Bool) → plan .stores ≡ false → stepOf xs g f plan at carry high .file ≡ xs
   unfolding stepOf
   step-file xs at carry high e = rw e
 
-  step-carried : (xs : List ℕ) (at : Names) (carry high : Bool) → carries (plan .kind) ≡ true → Carried f (stepOf xs g f plan at carry high .cycle)
+  step-carried : (xs : List ℕ) (at : Designators) (carry high : Bool) → carries (plan .kind) ≡ true → Carried f (stepOf xs g f plan at carry high .back)
   unfolding stepOf
   step-carried xs at carry high e = cycle-carried (plan .kind) _ _ carry f e
 
-  pub one-cycle : (xs : List ℕ) (at : Names) (odd : Bool) → Follows plan odd xs f (oneCycleOf xs g f plan at odd)
+  pub one-cycle : (xs : List ℕ) (at : Designators) (odd : Bool) → Follows plan odd xs f (oneCycleOf xs g f plan at odd)
   unfolding oneCycleOf afterByteOf
   one-cycle xs at odd =
       record {
@@ -101,7 +102,7 @@ module _ (g : ℕ) (f : Flags) (plan : Plan) where
         flags = after-keeps (carries (plan .kind)) odd f _ _ (step-carried xs at (plan .carry) false);
       }
 
-  joined : (xs : List ℕ) (one other : Names) (high odd : Bool) → Follows plan odd xs f (oneThenOther xs g f plan one other high odd)
+  joined : (xs : List ℕ) (one other : Designators) (high odd : Bool) → Follows plan odd xs f (oneThenOther xs g f plan one other high odd)
   unfolding afterWordOf
   joined xs one other high odd =
       record {
@@ -109,7 +110,7 @@ module _ (g : ℕ) (f : Flags) (plan : Plan) where
         flags = after-keeps (carries (plan .kind)) odd f _ _ (step-carried _ other _ _);
       }
 
-  pub two-cycles : (xs : List ℕ) (low high : Names) (odd : Bool) → Follows plan odd xs f (twoCyclesOf xs g f plan low high odd)
+  pub two-cycles : (xs : List ℕ) (low high : Designators) (odd : Bool) → Follows plan odd xs f (twoCyclesOf xs g f plan low high odd)
   unfolding twoCyclesOf
   two-cycles xs low high odd =
       pick-all (Follows plan odd xs f) (highFirstOf (plan .kind)) _ _ (joined xs high low true odd) (joined xs low high false odd)

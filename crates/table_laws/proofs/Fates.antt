@@ -6,9 +6,9 @@ use mathlib.Core.List.{List}
 use native.Mathlib.Omega.{arith}
 use lib.Dec.{T, eqb, ltb}
 use borrow.Author.Tests.{lt-ltb}
-use Rattle.attempt.specs.Attempt.{Ended, executedOf, outputsOf, attemptOf}
+use Rattle.attempt.specs.Attempt.{executedOf, outputsOf, attemptOf}
 use Rattle.attempt_laws.proofs.Fate.{attempt-fate}
-use Rattle.attempt_laws.specs.Fate.{Fate, refused, waited, reset, compute-low, completed, within, noCode, twoCycle, inputWord, oddPair, noOption, mustWait, bIn, aIn, wordFate, takenWord, fateOf, Bears}
+use Rattle.attempt_laws.specs.Fate.{Fate, refused, waited, reset, compute-low, completed, within, noCode, twoCycle, inputWord, oddPair, noOption, mustWait, bIn, aIn, wordFate, takenWord, fateOf, EndsAs}
 use Rattle.choose.proofs.Table.{below}
 use Rattle.choose.proofs.Tests.{both-left, both-right, equal-tests}
 use Rattle.choose.specs.Below.{allBelow}
@@ -16,16 +16,18 @@ use Rattle.choose.specs.Ranged.{pick, ranged}
 use Rattle.code.proofs.Digits.{row-of-code}
 use Rattle.code.proofs.Laws.{apart-well-formed, apart-code}
 use Rattle.code.proofs.Shape.{fit-listed}
-use Rattle.code.specs.Rows.{classOf, listed, cyclesOf, pairsOf, waitsOf, optionsOf, rowOf}
+use Rattle.code.specs.CodeRows.{classOf, listed, cyclesOf, pairsOf, waitsOf, optionsOf, rowOf}
 use Rattle.code.specs.Word.{topOf, apartOf}
 use Rattle.code.specs.declared.Apart.{Apart}
 use Rattle.code.specs.declared.Fields.{Fields}
-use Rattle.code.specs.declared.Row.{Row as TableRow}
+use Rattle.code.specs.declared.CodeRow.{CodeRow}
 use Rattle.rows.specs.declared.Outputs.{Outputs}
 use Rattle.rows.specs.declared.Row.{Row}
 use Rattle.state.specs.declared.Core.{Core}
 use Rattle.state.specs.declared.Sample.{Sample}
 use Rattle.table_laws.specs.Fates.{costOf, oddBy, waitsBy, rowFate}
+use Rattle.state.specs.File.{Leaves}
+use Rattle.attempt.specs.declared.Outcome.{Outcome}
 
 -- ---- microcycles
 
@@ -35,26 +37,26 @@ row-cycles code l = rw l
 
 -- an executed word costs its row's cycles
 executed-cost : (word : ℕ) (xs : List ℕ) (k : Core) (s : Sample) (o : Outputs) (w : Fields) → apartOf word ≡ Apart.Word w
-    → executedOf xs k w s o .outcome .cycles ≡ rowOf (topOf word) .cycles
+    → executedOf xs k w s o .back .cycles ≡ rowOf (topOf word) .cycles
 unfolding executedOf
 executed-cost word xs k s o w e =
     let f = apart-well-formed word w e in
     row-cycles (w .code) (rw (f .own) at (fit-listed (f .fitting)))
-    ∙ rw (apart-code word w e) (ap (λ (r : TableRow). r .cycles) (row-of-code (topOf word) (omega arith)))
+    ∙ rw (apart-code word w e) (ap (λ (r : CodeRow). r .cycles) (row-of-code (topOf word) (omega arith)))
 
-bears-cost : (word : ℕ) (xs : List ℕ) (k : Core) (s : Sample) (o : Outputs) (e : Ended) (f : Fate)
-    → Bears word xs k s o e f → e .outcome .cycles ≡ costOf (rowOf (topOf word)) f
-bears-cost word xs k s o e (refused n) (z, q) = rw q
-bears-cost word xs k s o e waited q = rw q
-bears-cost word xs k s o e reset q = rw q
-bears-cost word xs k s o e compute-low q = rw q
-bears-cost word xs k s o e completed (w, a, q) = rw q (executed-cost word xs k s o w a)
+ends-cost : (word : ℕ) (xs : List ℕ) (k : Core) (s : Sample) (o : Outputs) (e : Leaves Outcome) (f : Fate)
+    → EndsAs word xs k s o e f → e .back .cycles ≡ costOf (rowOf (topOf word)) f
+ends-cost word xs k s o e (refused n) (z, q) = rw q
+ends-cost word xs k s o e waited q = rw q
+ends-cost word xs k s o e reset q = rw q
+ends-cost word xs k s o e compute-low q = rw q
+ends-cost word xs k s o e completed (w, a, q) = rw q (executed-cost word xs k s o w a)
 
 -- every attempt costs what its fate and the row of the word taken at LC say, and nothing else
 pub attempt-cycles-are : (ws : List ℕ) (rs : List Row) (xs : List ℕ) (k : Core) (s : Sample)
-    → attemptOf ws rs xs k s .outcome .cycles ≡ costOf (rowOf (topOf (takenWord ws k))) (fateOf ws k s)
+    → attemptOf ws rs xs k s .back .cycles ≡ costOf (rowOf (topOf (takenWord ws k))) (fateOf ws k s)
 attempt-cycles-are ws rs xs k s =
-    bears-cost (takenWord ws k) xs k s (outputsOf ws rs k s) (attemptOf ws rs xs k s) (fateOf ws k s) (attempt-fate ws rs xs k s)
+    ends-cost (takenWord ws k) xs k s (outputsOf ws rs k s) (attemptOf ws rs xs k s) (fateOf ws k s) (attempt-fate ws rs xs k s)
 
 -- ---- 01's lists of codes and the table's columns: tests that antt computes over the codes
 

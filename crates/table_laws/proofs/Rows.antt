@@ -8,12 +8,12 @@ use Rattle.alu.specs.declared.Flags.{Flags}
 use Rattle.choose.proofs.Table.{below}
 use Rattle.choose.proofs.Tests.{both-left, both-right, equal-tests}
 use Rattle.choose.specs.Ranged.{pick, ranged}
-use Rattle.code.specs.Rows.{classOf, listed, statusFlagsOf, conditionFlagsOf, storesOf, rowOf}
+use Rattle.code.specs.CodeRows.{classOf, listed, statusFlagsOf, conditionFlagsOf, storesOf, rowOf}
 use Rattle.code.specs.Word.{same}
 use Rattle.code.specs.declared.Class.{Class}
 use Rattle.plan.specs.Plan.{planOf, literalPlanOf}
 use Rattle.table_laws.specs.Table.{maskOf, comparesOrTests, setsConditions}
-use Rattle.table_laws.proofs.Instructions.{Columns, nothing, literalSays, seventiesSay, registersSay}
+use Rattle.table_laws.proofs.Instructions.{Columns, nothing, literalSays, codes70To77Say, registersSay}
 
 -- ---- the table marks what the instructions say of themselves, and no more: one test for each kind of operands, which antt computes over the codes
 
@@ -36,7 +36,7 @@ literal-says code v h e =
     (rw e at (below 0x100 (λ x. pick (same (classOf x) Class.Literal) (agrees (literalSays x v) x) true) tt code h))
 
 pub registers-say : (code : ℕ) (f : Flags) → code < 0x100 → classOf code ≡ Class.Register → Agrees (registersSay code f) code
-unfolding classOf ranged registersSay seventiesSay planOf storesOf conditionFlagsOf statusFlagsOf
+unfolding classOf ranged registersSay codes70To77Say planOf storesOf conditionFlagsOf statusFlagsOf
 registers-say code f h e =
     agreed (registersSay code f) code
     (rw e at (below 0x100 (λ x. pick (same (classOf x) Class.Register) (agrees (registersSay x f) x) true) tt code h))

@@ -13,34 +13,35 @@ use Rattle.alu.specs.Marks.{afterOf, afterByteOf, afterWordOf}
 use Rattle.alu.specs.declared.Cycle.{Cycle}
 use Rattle.alu.specs.declared.Flags.{Flags}
 use Rattle.alu.specs.declared.Kind.{Kind}
-use Rattle.attempt.specs.Attempt.{Ended, executedOf, outputsOf, attemptOf}
+use Rattle.attempt.specs.Attempt.{executedOf, outputsOf, attemptOf}
 use Rattle.attempt.specs.Effect.{jumpedOf, literalEffect, registerEffect, effectOf}
 use Rattle.attempt_laws.proofs.Fate.{attempt-fate}
-use Rattle.attempt_laws.specs.Fate.{completed, odd, aIn, takenWord, fateOf, Bears}
+use Rattle.attempt_laws.specs.Fate.{completed, odd, aIn, takenWord, fateOf, EndsAs}
 use Rattle.choose.proofs.Choice.{pick-all, pick-both}
 use Rattle.choose.proofs.Table.{below}
 use Rattle.choose.proofs.Tests.{holds}
 use Rattle.choose.specs.Below.{allBelow}
 use Rattle.choose.specs.Ranged.{pick, ranged}
 use Rattle.code.proofs.Words.{apart-is}
-use Rattle.code.specs.Rows.{classOf, listed}
+use Rattle.code.specs.CodeRows.{classOf, listed}
 use Rattle.code.specs.Word.{topOf, operandsIn, fieldsIn}
 use Rattle.code.specs.declared.Class.{Class}
-use Rattle.cycles.specs.Cycles.{Made, made, stepOf, oneCycleOf, oneThenOther, twoCyclesOf}
-use Rattle.cycles.specs.declared.Names.{Names}
+use Rattle.cycles.specs.Cycles.{stepOf, oneCycleOf, oneThenOther, twoCyclesOf}
+use Rattle.cycles.specs.declared.Designators.{Designators}
 use Rattle.cycles.specs.declared.Plan.{Plan}
-use Rattle.execute.specs.Execute.{names, literalOf, steppedByOf, seventiesOf, workedOf, workOf, inputOf, accessOf, registersOf}
+use Rattle.execute.specs.Execute.{designators, literalOf, steppedByOf, codes70To77Of, operationOf, conditionedOf, inputOf, accessOf, registersOf}
 use Rattle.plan.specs.Plan.{planOf, conditionMet, literalPlanOf}
 use Rattle.rows.specs.declared.Outputs.{Outputs}
 use Rattle.rows.specs.declared.Row.{Row}
 use Rattle.state.proofs.Laws.{written-length, written-same, written-other}
-use Rattle.state.specs.File.{gSlot, slotOf, highOf, registerOf, writtenOf}
+use Rattle.state.specs.File.{Leaves, leaves, gSlot, slotOf, highOf, registerOf, writtenOf}
 use Rattle.state.specs.declared.Core.{Core}
 use Rattle.state.specs.declared.Sample.{Sample}
 use Rattle.table_laws.specs.Table.{comparesOrTests}
 use Rattle.table_laws.specs.Set.{conditionFails, oddCode, keepsC, shiftsRight, onesComplements, clearsV, takesC8, takesBorrow, storesWord, storesByte, Marked, bit7, Shown}
 use Rattle.table_laws.proofs.Cycles.{carries}
 use Rattle.table_laws.proofs.Instructions.{end, _also_, ranged-both}
+use Rattle.attempt.specs.declared.Outcome.{Outcome}
 
 no : {A : Type 0} → false ≡ true → A
 no e = absurd (false≢true e)
@@ -175,86 +176,86 @@ two-places g a e =
     rw (eq-eqb p q e) at t
 
 -- Ra after a byte
-abbrev ByteShown : ℕ → ℕ → Made → Type 0
-ByteShown g a m = (m .flags .nb ≡ bit7 (registerOf (m .file) g a)) × (m .flags .zb ≡ eqb (registerOf (m .file) g a) 0)
+abbrev ByteShown : ℕ → ℕ → Leaves Flags → Type 0
+ByteShown g a m = (m .back .nb ≡ bit7 (registerOf (m .file) g a)) × (m .back .zb ≡ eqb (registerOf (m .file) g a) 0)
 
 -- Ra and Ra+1 after a word; the last cycle is the low byte's where the high byte goes first
-abbrev WordShown : Bool → ℕ → ℕ → Made → Type 0
+abbrev WordShown : Bool → ℕ → ℕ → Leaves Flags → Type 0
 WordShown high g a m =
-    (m .flags .nb ≡ bit7 (registerOf (m .file) g (pick high a (highOf a))))
-    × (m .flags .zb ≡ (eqb (registerOf (m .file) g a) 0 && eqb (registerOf (m .file) g (highOf a)) 0))
+    (m .back .nb ≡ bit7 (registerOf (m .file) g (pick high a (highOf a))))
+    × (m .back .zb ≡ (eqb (registerOf (m .file) g a) 0 && eqb (registerOf (m .file) g (highOf a)) 0))
 
 module _ (g : ℕ) (f : Flags) (plan : Plan) where
-  abbrev stepAt : List ℕ → Names → Bool → Bool → Cycle
-  stepAt xs at carry high = stepOf xs g f plan at carry high .cycle
+  abbrev stepAt : List ℕ → Designators → Bool → Bool → Cycle
+  stepAt xs at carry high = stepOf xs g f plan at carry high .back
 
-  step-gives : (xs : List ℕ) (at : Names) (carry high : Bool) → Gives (plan .kind) f (stepAt xs at carry high)
+  step-gives : (xs : List ℕ) (at : Designators) (carry high : Bool) → Gives (plan .kind) f (stepAt xs at carry high)
   unfolding stepOf
   step-gives xs at carry high = cycle-gives (plan .kind) _ _ carry f
 
-  one-sets : (xs : List ℕ) (at : Names) (conditions : Bool) → Sets (plan .kind) conditions f (oneCycleOf xs g f plan at conditions .flags)
+  one-sets : (xs : List ℕ) (at : Designators) (conditions : Bool) → Sets (plan .kind) conditions f (oneCycleOf xs g f plan at conditions .back)
   unfolding oneCycleOf afterByteOf
   one-sets xs at conditions = after-sets (plan .kind) conditions f _ _ (step-gives xs at (plan .carry) false)
 
-  joined-sets : (xs : List ℕ) (one other : Names) (high conditions : Bool) → Sets (plan .kind) conditions f (oneThenOther xs g f plan one other high conditions .flags)
+  joined-sets : (xs : List ℕ) (one other : Designators) (high conditions : Bool) → Sets (plan .kind) conditions f (oneThenOther xs g f plan one other high conditions .back)
   unfolding afterWordOf
   joined-sets xs one other high conditions = after-sets (plan .kind) conditions f _ _ (step-gives _ other _ _)
 
-  two-sets : (xs : List ℕ) (low high : Names) (conditions : Bool) → Sets (plan .kind) conditions f (twoCyclesOf xs g f plan low high conditions .flags)
+  two-sets : (xs : List ℕ) (low high : Designators) (conditions : Bool) → Sets (plan .kind) conditions f (twoCyclesOf xs g f plan low high conditions .back)
   unfolding twoCyclesOf
   two-sets xs low high conditions =
-      pick-all (λ (m : Made). Sets (plan .kind) conditions f (m .flags)) (highFirstOf (plan .kind)) _ _
+      pick-all (λ (m : Leaves Flags). Sets (plan .kind) conditions f (m .back)) (highFirstOf (plan .kind)) _ _
       (joined-sets xs high low true conditions)
       (joined-sets xs low high false conditions)
 
   module _ (stores : plan .stores ≡ true) where
-    step-file : (xs : List ℕ) (at : Names) (carry high : Bool)
+    step-file : (xs : List ℕ) (at : Designators) (carry high : Bool)
         → stepOf xs g f plan at carry high .file ≡ writtenOf xs g (at .a) (stepAt xs at carry high .result)
     unfolding stepOf
     step-file xs at carry high = rw stores
 
-    step-size : (xs : List ℕ) (at : Names) (carry high : Bool) → length xs ≡ 26 → length (stepOf xs g f plan at carry high .file) ≡ 26
+    step-size : (xs : List ℕ) (at : Designators) (carry high : Bool) → length xs ≡ 26 → length (stepOf xs g f plan at carry high .file) ≡ 26
     step-size xs at carry high size = rw (step-file xs at carry high) (written-length xs g (at .a) _ ∙ size)
 
     -- the register named holds what the cycle gave
-    step-holds : (xs : List ℕ) (at : Names) (carry high : Bool) → length xs ≡ 26
+    step-holds : (xs : List ℕ) (at : Designators) (carry high : Bool) → length xs ≡ 26
         → registerOf (stepOf xs g f plan at carry high .file) g (at .a) ≡ stepAt xs at carry high .result
     step-holds xs at carry high size = rw (step-file xs at carry high) (written-same xs g (at .a) _ size)
 
     -- and every other what it held
-    step-leaves : (xs : List ℕ) (at : Names) (carry high : Bool) (d : ℕ) → (slotOf g d ≡ slotOf g (at .a) → ⊥)
+    step-leaves : (xs : List ℕ) (at : Designators) (carry high : Bool) (d : ℕ) → (slotOf g d ≡ slotOf g (at .a) → ⊥)
         → registerOf (stepOf xs g f plan at carry high .file) g d ≡ registerOf xs g d
     unfolding registerOf
     step-leaves xs at carry high d n = rw (step-file xs at carry high) (written-other xs g (at .a) _ (slotOf g d) n)
 
-    one-shown : (xs : List ℕ) (at : Names) (conditions : Bool) → length xs ≡ 26 → ByteShown g (at .a) (oneCycleOf xs g f plan at conditions)
+    one-shown : (xs : List ℕ) (at : Designators) (conditions : Bool) → length xs ≡ 26 → ByteShown g (at .a) (oneCycleOf xs g f plan at conditions)
     unfolding oneCycleOf afterByteOf
     one-shown xs at conditions size = rw (step-holds xs at (plan .carry) false size) (after-nb f _ _ conditions, after-zb f _ _ conditions)
 
     -- after two cycles, the second on another register
-    joined-shown : (xs : List ℕ) (one other : Names) (high conditions : Bool) → length xs ≡ 26 → (slotOf g (one .a) ≡ slotOf g (other .a) → ⊥)
+    joined-shown : (xs : List ℕ) (one other : Designators) (high conditions : Bool) → length xs ≡ 26 → (slotOf g (one .a) ≡ slotOf g (other .a) → ⊥)
         → let m = oneThenOther xs g f plan one other high conditions in
-        (m .flags .nb ≡ bit7 (registerOf (m .file) g (other .a)))
-        × (m .flags .zb ≡ (eqb (registerOf (m .file) g (one .a)) 0 && eqb (registerOf (m .file) g (other .a)) 0))
+        (m .back .nb ≡ bit7 (registerOf (m .file) g (other .a)))
+        × (m .back .zb ≡ (eqb (registerOf (m .file) g (one .a)) 0 && eqb (registerOf (m .file) g (other .a)) 0))
     unfolding afterWordOf
     joined-shown xs one other high conditions size n =
         let first = stepOf xs g f plan one (plan .carry) high in
-        let carry = first .cycle .c8 in
+        let carry = first .back .c8 in
         let held = step-leaves (first .file) other carry (not high) (one .a) n ∙ step-holds xs one (plan .carry) high size in
         let last = step-holds (first .file) other carry (not high) (step-size xs one (plan .carry) high size) in
         rw (held, last) (after-nb f _ _ conditions, after-zb f _ _ conditions)
 
     two-shown : (xs : List ℕ) (a p q : ℕ) (conditions : Bool) → length xs ≡ 26
-        → WordShown (highFirstOf (plan .kind)) g a (twoCyclesOf xs g f plan (names a p) (names (highOf a) q) conditions)
+        → WordShown (highFirstOf (plan .kind)) g a (twoCyclesOf xs g f plan (designators a p) (designators (highOf a) q) conditions)
     unfolding twoCyclesOf
     two-shown xs a p q conditions size = go (highFirstOf (plan .kind))
       where
-        go : (t : Bool) → WordShown t g a (pick t (oneThenOther xs g f plan (names (highOf a) q) (names a p) true conditions) (oneThenOther xs g f plan (names a p) (names (highOf a) q) false conditions))
+        go : (t : Bool) → WordShown t g a (pick t (oneThenOther xs g f plan (designators (highOf a) q) (designators a p) true conditions) (oneThenOther xs g f plan (designators a p) (designators (highOf a) q) false conditions))
         go true =
-            let m = oneThenOther xs g f plan (names (highOf a) q) (names a p) true conditions in
-            let (nb, zb) = joined-shown xs (names (highOf a) q) (names a p) true conditions size (λ e. two-places g a (sym e)) in
+            let m = oneThenOther xs g f plan (designators (highOf a) q) (designators a p) true conditions in
+            let (nb, zb) = joined-shown xs (designators (highOf a) q) (designators a p) true conditions size (λ e. two-places g a (sym e)) in
             (nb, zb ∙ and-comm (eqb (registerOf (m .file) g (highOf a)) 0) (eqb (registerOf (m .file) g a) 0))
-        go false = joined-shown xs (names a p) (names (highOf a) q) false conditions size (two-places g a)
+        go false = joined-shown xs (designators a p) (designators (highOf a) q) false conditions size (two-places g a)
 
 -- ---- what each instruction says of itself, in the shape of its execution
 
@@ -286,8 +287,8 @@ unfoldable literalSays : ℕ → ℕ → Says
 literalSays code v = pick (eqb (code / 16) 3) nothing (oneSays (literalPlanOf code v) false)
 
 -- CIB, CDB
-unfoldable seventiesSay : ℕ → Says
-seventiesSay code =
+unfoldable codes70To77Say : ℕ → Says
+codes70To77Say code =
     ranged code ((0x72, nothing) ∷ (0x73, nothing) ∷ (0x74, nothing) ∷ (0x76, nothing) ∷ (0x77, says Kind.Add false true false) ∷ [])
     (says Kind.Add false true false)
 
@@ -297,7 +298,7 @@ byBit code one two = pick (eqb (code / 2 % 2) 0) one two
 unfoldable registersSay : ℕ → Flags → Says
 registersSay code f =
     ranged code
-    ((0x80, seventiesSay code) ∷
+    ((0x80, codes70To77Say code) ∷
     (0xE0, byBit code (oneSays (planOf code f) (odd code)) (twoSays (planOf code f) (odd code))) ∷
     (0xE8, byBit code (says Kind.Move (odd code) true false) (says Kind.Move (odd code) false true)) ∷
     (0xF0, nothing) ∷
@@ -306,13 +307,13 @@ registersSay code f =
     nothing
 
 module _ (xs : List ℕ) (g a : ℕ) (f : Flags) where
-  record Obeys (s : Says) (m : Made) : Type 0 where
-    sets : Sets (s .kind) (s .conditions) f (m .flags)
+  record Obeys (s : Says) (m : Leaves Flags) : Type 0 where
+    sets : Sets (s .kind) (s .conditions) f (m .back)
     byte : length xs ≡ 26 → s .byte ≡ true → ByteShown g a m
     word : length xs ≡ 26 → s .word ≡ true → WordShown (highFirstOf (s .kind)) g a m
 
   -- a code of no list
-  idle : (m : Made) → Obeys nothing m
+  idle : (m : Leaves Flags) → Obeys nothing m
   idle m =
       record {
         sets = record { n = no; z = no; v = no; kept = no; carry = no; borrow = no; ones = no; ones-c4 = no; ones-c8 = no; right = no };
@@ -320,14 +321,14 @@ module _ (xs : List ℕ) (g a : ℕ) (f : Flags) where
         word = λ l. no;
       }
 
-  one-obeys : (plan : Plan) (p : ℕ) (odd : Bool) → Obeys (oneSays plan odd) (oneCycleOf xs g f plan (names a p) odd)
+  one-obeys : (plan : Plan) (p : ℕ) (odd : Bool) → Obeys (oneSays plan odd) (oneCycleOf xs g f plan (designators a p) odd)
   one-obeys plan p odd =
-      record { sets = one-sets g f plan xs (names a p) odd; byte = λ l e. one-shown g f plan e xs (names a p) odd l; word = λ l. no }
+      record { sets = one-sets g f plan xs (designators a p) odd; byte = λ l e. one-shown g f plan e xs (designators a p) odd l; word = λ l. no }
 
-  two-obey : (plan : Plan) (p q : ℕ) (odd : Bool) → Obeys (twoSays plan odd) (twoCyclesOf xs g f plan (names a p) (names (highOf a) q) odd)
+  two-obey : (plan : Plan) (p q : ℕ) (odd : Bool) → Obeys (twoSays plan odd) (twoCyclesOf xs g f plan (designators a p) (designators (highOf a) q) odd)
   two-obey plan p q odd =
       record {
-        sets = two-sets g f plan xs (names a p) (names (highOf a) q) odd;
+        sets = two-sets g f plan xs (designators a p) (designators (highOf a) q) odd;
         byte = λ l. no;
         word = λ l e. two-shown g f plan e xs a p q odd l;
       }
@@ -340,14 +341,14 @@ module _ (xs : List ℕ) (g a : ℕ) (f : Flags) where
   unfolding steppedByOf
   stepped-by by = one-obeys _ a false
 
-  seventies-obey : (code b : ℕ) → Obeys (seventiesSay code) (seventiesOf xs g f code b a)
-  unfolding seventiesSay seventiesOf
-  seventies-obey code b =
+  codes-70-to-77-obey : (code b : ℕ) → Obeys (codes70To77Say code) (codes70To77Of xs g f code b a)
+  unfolding codes70To77Say codes70To77Of
+  codes-70-to-77-obey code b =
       ranged-both Obeys code _ _ (idle _ also idle _ also idle _ also idle _ also stepped-by 0 also end) (stepped-by 255)
 
   work-obeys : (ics : Bool) (code b : ℕ) → conditionMet code (f .c) ics ≡ true
-      → Obeys (byBit code (oneSays (planOf code f) (odd code)) (twoSays (planOf code f) (odd code))) (workOf xs g f ics code b a)
-  unfolding workOf workedOf
+      → Obeys (byBit code (oneSays (planOf code f) (odd code)) (twoSays (planOf code f) (odd code))) (conditionedOf xs g f ics code b a)
+  unfolding conditionedOf operationOf
   work-obeys ics code b goes =
       rw goes (pick-both Obeys (eqb (code / 2 % 2) 0) _ _ _ _ (one-obeys (planOf code f) b (odd code)) (two-obey (planOf code f) b (highOf b) (odd code)))
 
@@ -368,7 +369,7 @@ registers-obey xs core dal code b a goes =
     let g = core .latches .g in
     let f = core .flags in
     ranged-both (Obeys xs g a f) code _ _
-    (seventies-obey xs g a f code b also
+    (codes-70-to-77-obey xs g a f code b also
     work-obeys xs g a f (core .latches .ics) code b goes also
     input-obeys xs g a f code dal (core .bus .m) b also
     idle xs g a f _ also
@@ -406,7 +407,7 @@ module _ (f : Flags) (v : ℕ) where
     word : storesWord code ≡ true → ofCode code .word ≡ true
 
   ruled : (code : ℕ) → code < 0x100 → Ruled code
-  unfolding classOf ranged literalSays literalPlanOf seventiesSay registersSay planOf oddCode keepsC clearsV takesC8 takesBorrow storesByte storesWord comparesOrTests
+  unfolding classOf ranged literalSays literalPlanOf codes70To77Say registersSay planOf oddCode keepsC clearsV takesC8 takesBorrow storesByte storesWord comparesOrTests
   ruled code h =
       record {
         conditions = implied oddCode (λ x. ofCode x .conditions) tt code h;
@@ -436,8 +437,8 @@ abbrev litOf : ℕ → ℕ
 litOf word = word / 0x10 % 0x100
 
 module _ (xs : List ℕ) (k : Core) (s : Sample) (o : Outputs) (word : ℕ) where
-  abbrev Told : Says → Ended → Type 0
-  Told y e = Obeys xs (k .latches .g) (aIn word) (k .flags) y (made (e .file) (e .outcome .core .flags))
+  abbrev Told : Says → Leaves Outcome → Type 0
+  Told y e = Obeys xs (k .latches .g) (aIn word) (k .flags) y (leaves (e .file) (e .back .core .flags))
 
   executed-told : (c : Class) → listed c ≡ true → conditionMet (topOf word) (k .flags .c) (k .latches .ics) ≡ true
       → Told (wordSays c (topOf word) (k .flags) (litOf word)) (executedOf xs k (fieldsIn c word) s o)
@@ -448,9 +449,9 @@ module _ (xs : List ℕ) (k : Core) (s : Sample) (o : Outputs) (word : ℕ) wher
   executed-told Class.Literal l e = literal-obeys xs (k .latches .g) (aIn word) (k .flags) _ (litOf word)
   executed-told Class.Register l e = registers-obey xs k (s .dal) (topOf word) _ (aIn word) e
 
-  bears-told : (e : Ended) → Bears word xs k s o e completed → conditionMet (topOf word) (k .flags .c) (k .latches .ics) ≡ true
+  ends-told : (e : Leaves Outcome) → EndsAs word xs k s o e completed → conditionMet (topOf word) (k .flags .c) (k .latches .ics) ≡ true
       → Told (ofCode (k .flags) (litOf word) (topOf word)) e
-  bears-told e (w, a, q) h =
+  ends-told e (w, a, q) h =
       let (b, l, p) = apart-is word w a in
       rw (q, ← p) (executed-told (classOf (topOf word)) l h)
 
@@ -461,7 +462,7 @@ Goes ws k = conditionFails (topOf (takenWord ws k)) (k .flags .c) (k .latches .i
 module _ (ws : List ℕ) (rs : List Row) (xs : List ℕ) (k : Core) (s : Sample) (completes : fateOf ws k s ≡ completed) (holding : Goes ws k) where
   attempt-told : Told xs k s (outputsOf ws rs k s) (takenWord ws k) (ofCode (k .flags) (litOf (takenWord ws k)) (topOf (takenWord ws k))) (attemptOf ws rs xs k s)
   attempt-told =
-      bears-told xs k s (outputsOf ws rs k s) (takenWord ws k) (attemptOf ws rs xs k s)
+      ends-told xs k s (outputsOf ws rs k s) (takenWord ws k) (attemptOf ws rs xs k s)
       (rw completes at (attempt-fate ws rs xs k s))
       (goes (topOf (takenWord ws k)) (omega arith) (k .flags .c) (k .latches .ics) holding)
 
@@ -469,7 +470,7 @@ module _ (ws : List ℕ) (rs : List Row) (xs : List ℕ) (k : Core) (s : Sample)
   attempt-ruled = ruled (k .flags) (litOf (takenWord ws k)) (topOf (takenWord ws k)) (omega arith)
 
   -- N Z V C of a word that completes, its condition not failed, and C4 and C8 where its list clears them
-  pub attempt-marked : Marked (topOf (takenWord ws k)) (k .flags) (attemptOf ws rs xs k s .outcome .core .flags)
+  pub attempt-marked : Marked (topOf (takenWord ws k)) (k .flags) (attemptOf ws rs xs k s .back .core .flags)
   attempt-marked =
       let t = attempt-told .sets in
       let r = attempt-ruled in
@@ -488,7 +489,7 @@ module _ (ws : List ℕ) (rs : List Row) (xs : List ℕ) (k : Core) (s : Sample)
 
   -- NB and ZB of such a word that stores, by the registers that it leaves
   pub attempt-shown : length xs ≡ 26
-      → Shown (topOf (takenWord ws k)) (k .latches .g) (aIn (takenWord ws k)) (attemptOf ws rs xs k s .file) (attemptOf ws rs xs k s .outcome .core .flags)
+      → Shown (topOf (takenWord ws k)) (k .latches .g) (aIn (takenWord ws k)) (attemptOf ws rs xs k s .file) (attemptOf ws rs xs k s .back .core .flags)
   attempt-shown size =
       let t = attempt-told in
       let r = attempt-ruled in

@@ -5,15 +5,15 @@ use mathlib.Core.Path.{_≡_, refl, sym, _∙_}
 use mathlib.Core.Bool.{true, false}
 use mathlib.Core.List.{List}
 use native.Mathlib.Omega.{arith}
-use Rattle.attempt.specs.Attempt.{Ended, executedOf, resetOf, outputsOf, attemptOf}
+use Rattle.attempt.specs.Attempt.{executedOf, resetOf, outputsOf, attemptOf}
 use Rattle.attempt.specs.Effect.{jumpedOf, literalEffect, registerEffect, effectOf}
 use Rattle.attempt_laws.proofs.Fate.{attempt-fate}
-use Rattle.attempt_laws.specs.Fate.{Fate, refused, waited, reset, compute-low, completed, takenWord, fateOf, Bears}
+use Rattle.attempt_laws.specs.Fate.{Fate, refused, waited, reset, compute-low, completed, takenWord, fateOf, EndsAs}
 use Rattle.code.proofs.Digits.{row-of-code}
 use Rattle.code.proofs.Laws.{apart-well-formed, apart-code}
 use Rattle.code.proofs.Shape.{fit-listed}
 use Rattle.code.proofs.Tops.{listed-below}
-use Rattle.code.specs.Rows.{classOf, listed, storesOf, rowOf}
+use Rattle.code.specs.CodeRows.{classOf, listed, storesOf, rowOf}
 use Rattle.code.specs.Word.{topOf, apartOf, Fit, jump, conditional, literal, register, WellFormed}
 use Rattle.code.specs.declared.Apart.{Apart}
 use Rattle.code.specs.declared.Class.{Class}
@@ -26,6 +26,8 @@ use Rattle.state.specs.declared.Sample.{Sample}
 use Rattle.table_laws.specs.Table.{FlagsKept, ConditionsKept, maskOf, comparesOrTests, setsConditions, Told, RowHolds}
 use Rattle.table_laws.proofs.Instructions.{untouched, literal-obeys, registers-obey}
 use Rattle.table_laws.proofs.Rows.{literal-says, registers-say, compare-row, condition-row, literal-row, cl-row, row-says}
+use Rattle.state.specs.File.{Leaves}
+use Rattle.attempt.specs.declared.Outcome.{Outcome}
 
 -- ---- every executed word
 
@@ -65,7 +67,7 @@ module _ (xs : List ℕ) (k : Core) (s : Sample) where
 
   -- "Status (NB ZB C4 C8) is always set as 5.3.2 marks it; condition flags (N Z V C) only by LCF and odd codes 81-DF and E1-E7": here that what
   -- is not marked is kept; to what the marked ones are set, Set says
-  pub flags-kept : (w : Fields) → WellFormed w → FlagsKept (maskOf (w .code)) (k .flags) (effectOf xs k (w .code) (w .operands) s .effect .flags)
+  pub flags-kept : (w : Fields) → WellFormed w → FlagsKept (maskOf (w .code)) (k .flags) (effectOf xs k (w .code) (w .operands) s .back .flags)
   flags-kept w f = effect-obeys w f .flags
 
   -- "Compare and test write no register", by 01's list
@@ -73,19 +75,19 @@ module _ (xs : List ℕ) (k : Core) (s : Sample) where
   compares-store-nothing w f e = no-store w f (compare-row (w .code) (code-below w f) e)
 
   -- "condition flags (N Z V C) only by LCF and odd codes 81-DF and E1-E7", by 01's list
-  pub conditions-kept : (w : Fields) → WellFormed w → setsConditions (w .code) ≡ false → ConditionsKept (k .flags) (effectOf xs k (w .code) (w .operands) s .effect .flags)
+  pub conditions-kept : (w : Fields) → WellFormed w → setsConditions (w .code) ≡ false → ConditionsKept (k .flags) (effectOf xs k (w .code) (w .operands) s .back .flags)
   conditions-kept w f e =
       let h = flags-kept w f in
       let low : maskOf (w .code) < 0x10 = condition-row (w .code) (code-below w f) e in
       record { n = h .n (omega arith); z = h .z (omega arith); v = h .v (omega arith); c = h .c (omega arith) }
 
   -- "Literals touch status only"
-  pub literals-touch-status-only : (w : Fields) → WellFormed w → w .class ≡ Class.Literal → ConditionsKept (k .flags) (effectOf xs k (w .code) (w .operands) s .effect .flags)
+  pub literals-touch-status-only : (w : Fields) → WellFormed w → w .class ≡ Class.Literal → ConditionsKept (k .flags) (effectOf xs k (w .code) (w .operands) s .back .flags)
   literals-touch-status-only w f e = conditions-kept w f (literal-row (w .code) (code-below w f) (sym (f .own) ∙ e))
 
   -- "CL leaves C4 and C8"
   pub cl-leaves : (w : Fields) → WellFormed w → w .code ≡ 0x30
-      → let g = effectOf xs k (w .code) (w .operands) s .effect .flags in
+      → let g = effectOf xs k (w .code) (w .operands) s .back .flags in
       (g .c4 ≡ k .flags .c4) × (g .c8 ≡ k .flags .c8)
   cl-leaves w f e =
       let h = flags-kept w f in
@@ -102,36 +104,36 @@ module _ (xs : List ℕ) (k : Core) (s : Sample) (o : Outputs) where
       let (stores, flags) = row-says (w .code) (code-listed w f) in
       rw (← row-of-code (topOf word) (omega arith), ← apart-code word w e, stores, flags) (effect-obeys xs k s w f)
 
-  bears-row : (word : ℕ) (e : Ended) (f : Fate) → Bears word xs k s o e f → RowHolds (topOf word) xs k e
+  ends-row : (word : ℕ) (e : Leaves Outcome) (f : Fate) → EndsAs word xs k s o e f → RowHolds (topOf word) xs k e
   unfolding resetOf
-  bears-row word e (refused n) (z, q) = rw q (untouched _ _ xs (k .flags))
-  bears-row word e waited q = rw q (untouched _ _ xs (k .flags))
-  bears-row word e reset q = rw q (untouched _ _ xs (k .flags))
-  bears-row word e compute-low q = rw q (untouched _ _ xs (k .flags))
-  bears-row word e completed (w, a, q) = rw q (executed-row word w a)
+  ends-row word e (refused n) (z, q) = rw q (untouched _ _ xs (k .flags))
+  ends-row word e waited q = rw q (untouched _ _ xs (k .flags))
+  ends-row word e reset q = rw q (untouched _ _ xs (k .flags))
+  ends-row word e compute-low q = rw q (untouched _ _ xs (k .flags))
+  ends-row word e completed (w, a, q) = rw q (executed-row word w a)
 
-  bears-idle : (word : ℕ) (e : Ended) (f : Fate) → Bears word xs k s o e f → (f ≡ completed → ⊥)
-      → (e .file ≡ xs) × (e .outcome .core .flags ≡ k .flags)
+  ends-idle : (word : ℕ) (e : Leaves Outcome) (f : Fate) → EndsAs word xs k s o e f → (f ≡ completed → ⊥)
+      → (e .file ≡ xs) × (e .back .core .flags ≡ k .flags)
   unfolding resetOf
-  bears-idle word e (refused n) (z, q) h = rw q (refl, refl)
-  bears-idle word e waited q h = rw q (refl, refl)
-  bears-idle word e reset q h = rw q (refl, refl)
-  bears-idle word e compute-low q h = rw q (refl, refl)
-  bears-idle word e completed q h = absurd (h refl)
+  ends-idle word e (refused n) (z, q) h = rw q (refl, refl)
+  ends-idle word e waited q h = rw q (refl, refl)
+  ends-idle word e reset q h = rw q (refl, refl)
+  ends-idle word e compute-low q h = rw q (refl, refl)
+  ends-idle word e completed q h = absurd (h refl)
 
 module _ (ws : List ℕ) (rs : List Row) (xs : List ℕ) (k : Core) (s : Sample) where
   attempt-row : RowHolds (topOf (takenWord ws k)) xs k (attemptOf ws rs xs k s)
-  attempt-row = bears-row xs k s (outputsOf ws rs k s) (takenWord ws k) (attemptOf ws rs xs k s) (fateOf ws k s) (attempt-fate ws rs xs k s)
+  attempt-row = ends-row xs k s (outputsOf ws rs k s) (takenWord ws k) (attemptOf ws rs xs k s) (fateOf ws k s) (attempt-fate ws rs xs k s)
 
   -- an attempt writes a register only if the row of the word taken at LC stores
   pub attempt-stores : rowOf (topOf (takenWord ws k)) .stores ≡ false → attemptOf ws rs xs k s .file ≡ xs
   attempt-stores = attempt-row .file
 
   -- and only the flags that the row marks
-  pub attempt-flags : FlagsKept (rowOf (topOf (takenWord ws k)) .flags) (k .flags) (attemptOf ws rs xs k s .outcome .core .flags)
+  pub attempt-flags : FlagsKept (rowOf (topOf (takenWord ws k)) .flags) (k .flags) (attemptOf ws rs xs k s .back .core .flags)
   attempt-flags = attempt-row .flags
 
   -- refusals, waits, RESET and COMPUTE low change no register and no flag
-  pub attempt-idle : (fateOf ws k s ≡ completed → ⊥) → (attemptOf ws rs xs k s .file ≡ xs) × (attemptOf ws rs xs k s .outcome .core .flags ≡ k .flags)
+  pub attempt-idle : (fateOf ws k s ≡ completed → ⊥) → (attemptOf ws rs xs k s .file ≡ xs) × (attemptOf ws rs xs k s .back .core .flags ≡ k .flags)
   attempt-idle =
-      bears-idle xs k s (outputsOf ws rs k s) (takenWord ws k) (attemptOf ws rs xs k s) (fateOf ws k s) (attempt-fate ws rs xs k s)
+      ends-idle xs k s (outputsOf ws rs k s) (takenWord ws k) (attemptOf ws rs xs k s) (fateOf ws k s) (attempt-fate ws rs xs k s)

@@ -4,14 +4,14 @@ use mathlib.Core.Bool.{Bool, not, _&&_, _||_}
 use lib.Dec.{eqb, ltb}
 use Rattle.attempt_laws.specs.Fate.{Fate, refused, waited, reset, compute-low, completed, odd, bIn, aIn}
 use Rattle.choose.specs.Ranged.{pick}
-use Rattle.code.specs.Rows.{listed}
+use Rattle.code.specs.CodeRows.{listed}
 use Rattle.code.specs.Word.{topOf}
-use Rattle.code.specs.declared.Row.{Row}
+use Rattle.code.specs.declared.CodeRow.{CodeRow}
 use Rattle.state.specs.declared.Sample.{Sample}
 
 -- "cycles are those of manual 5.3.2": the row's for a completed word. "A wait costs 1"; RESET and COMPUTE low, "Both cost 1"; a refusal returns "the
 -- counts up to it"
-abbrev pub costOf : Row → Fate → ℕ
+abbrev pub costOf : CodeRow → Fate → ℕ
 costOf row (refused n) = 0
 costOf row waited = 1
 costOf row reset = 1
@@ -19,15 +19,15 @@ costOf row compute-low = 1
 costOf row completed = row .cycles
 
 -- `pairs` is 3 where a and b have to be even, and 1 where a has
-abbrev pub oddBy : Row → ℕ → ℕ → Bool
+abbrev pub oddBy : CodeRow → ℕ → ℕ → Bool
 oddBy row b a = (eqb (row .pairs) 3 && (odd a || odd b)) || (eqb (row .pairs) 1 && odd a)
 
 -- `waits` is 1 where REPLY or BUSY holds the word, and 2 where REPLY low does
-abbrev pub waitsBy : Row → Bool → Bool → Bool
+abbrev pub waitsBy : CodeRow → Bool → Bool → Bool
 waitsBy row reply busy = (eqb (row .waits) 1 && (reply || busy)) || (eqb (row .waits) 2 && not reply)
 
 -- the fate of a word that has this row: 6, "code unlisted, or AC"; 7, "odd designator where a pair is needed"; 8, "option not listed", b over `options`
-unfoldable pub rowFate : Row → ℕ → Sample → Fate
+unfoldable pub rowFate : CodeRow → ℕ → Sample → Fate
 rowFate row word s =
     pick (not (listed (row .class)) || eqb (topOf word) 0xAC) (refused 6)
     (pick (oddBy row (bIn word) (aIn word)) (refused 7)

@@ -6,10 +6,11 @@ use mathlib.Core.List.{List}
 use lib.Dec.{eqb}
 use Rattle.alu.specs.declared.Flags.{Flags}
 use Rattle.attempt_laws.specs.Fate.{within, odd}
-use Rattle.code.specs.Rows.{statusFlagsOf, conditionFlagsOf, storesOf, rowOf}
-use Rattle.attempt.specs.Attempt.{Ended}
-use Rattle.attempt.specs.Effect.{Effected}
+use Rattle.code.specs.CodeRows.{statusFlagsOf, conditionFlagsOf, storesOf, rowOf}
 use Rattle.state.specs.declared.Core.{Core}
+use Rattle.state.specs.File.{Leaves}
+use Rattle.attempt.specs.declared.Effect.{Effect}
+use Rattle.attempt.specs.declared.Outcome.{Outcome}
 
 -- each flag whose bit of the mask is 0 is as before: N Z V C are bits 7-4, NB ZB C4 C8 bits 3-0
 pub record FlagsKept (mask : ℕ) (before after : Flags) : Type 0 where
@@ -39,12 +40,12 @@ pub record Obeys (stores : Bool) (mask : ℕ) (before after : List ℕ) (f g : F
   pub flags : FlagsKept mask f g
 
 -- what the table says of an effect
-abbrev pub Told : List ℕ → Core → ℕ → Effected → Type 0
-Told xs k code e = Obeys (storesOf code) (maskOf code) xs (e .file) (k .flags) (e .effect .flags)
+abbrev pub Told : List ℕ → Core → ℕ → Leaves Effect → Type 0
+Told xs k code e = Obeys (storesOf code) (maskOf code) xs (e .file) (k .flags) (e .back .flags)
 
 -- what the row of a top byte says of an attempt; an unlisted one's row has no store and no flag
-abbrev pub RowHolds : ℕ → List ℕ → Core → Ended → Type 0
-RowHolds top xs k e = Obeys (rowOf top .stores) (rowOf top .flags) xs (e .file) (k .flags) (e .outcome .core .flags)
+abbrev pub RowHolds : ℕ → List ℕ → Core → Leaves Outcome → Type 0
+RowHolds top xs k e = Obeys (rowOf top .stores) (rowOf top .flags) xs (e .file) (k .flags) (e .back .core .flags)
 
 -- ---- 01's own lists of codes, which use none of the table
 

@@ -2,7 +2,7 @@
 use mathlib.Core.Path.{sym}
 use native.Mathlib.Omega.{arith}
 use Rattle.choose.proofs.Ranged.{in-arm, in-rest}
-use Rattle.code.specs.Rows.{cyclesOf}
+use Rattle.code.specs.CodeRows.{cyclesOf}
 use borrow.Author.Needs.{needs}
 use Rattle.checks.proofs.cycles.Statement.{statement}
 use Rattle.checks.proofs.cycles.Tie as tie

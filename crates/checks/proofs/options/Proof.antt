@@ -2,7 +2,7 @@
 use mathlib.Core.Path.{sym}
 use native.Mathlib.Omega.{arith}
 use Rattle.choose.proofs.Ranged.{in-arm, in-rest}
-use Rattle.code.specs.Rows.{optionsOf}
+use Rattle.code.specs.CodeRows.{optionsOf}
 use Rattle.checks.proofs.options.Statement.{statement}
 use Rattle.checks.proofs.options.Tie as tie
 

@@ -2,7 +2,7 @@
 use mathlib.Core.Path.{sym}
 use native.Mathlib.Omega.{arith}
 use Rattle.choose.proofs.Ranged.{in-arm, in-rest}
-use Rattle.code.specs.Rows.{pairsOf}
+use Rattle.code.specs.CodeRows.{pairsOf}
 use borrow.Author.Needs.{needs}
 use Rattle.checks.proofs.pairs.Statement.{statement}
 use Rattle.checks.proofs.pairs.Tie as tie

@@ -2,7 +2,7 @@
 use mathlib.Core.Path.{sym}
 use native.Mathlib.Omega.{arith}
 use Rattle.choose.proofs.Ranged.{in-arm, in-rest}
-use Rattle.code.specs.Rows.{waitsOf}
+use Rattle.code.specs.CodeRows.{waitsOf}
 use Rattle.checks.proofs.waits.Statement.{statement}
 use Rattle.checks.proofs.waits.Tie as tie
 

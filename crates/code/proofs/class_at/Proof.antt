@@ -2,7 +2,7 @@
 use mathlib.Core.Path.{sym}
 use native.Mathlib.Omega.{arith}
 use Rattle.choose.proofs.Ranged.{in-arm, in-rest}
-use Rattle.code.specs.Rows.{classAt}
+use Rattle.code.specs.Entries.{classAt}
 use Rattle.code.proofs.class_at.Statement.{statement}
 use Rattle.code.proofs.class_at.Tie as tie
 

@@ -2,7 +2,7 @@
 use mathlib.Core.Path.{sym}
 use native.Mathlib.Omega.{arith}
 use Rattle.choose.proofs.Ranged.{in-arm}
-use Rattle.code.specs.Rows.{classOf}
+use Rattle.code.specs.CodeRows.{classOf}
 use Rattle.code.proofs.class_of.Statement.{statement}
 use Rattle.code.proofs.class_of.Tie as tie
 

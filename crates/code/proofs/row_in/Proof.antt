@@ -1,5 +1,5 @@
 -- `code::row_in` meets its contract: the digits are those of the entry that was read.
-use Rattle.code.specs.Rows.{rowOfEntry}
+use Rattle.code.specs.Entries.{rowOfEntry}
 use borrow.Author.Needs.{needs}
 use Rattle.code.proofs.row_in.Statement.{statement}
 use Rattle.code.proofs.row_in.Tie as tie

@@ -1,7 +1,8 @@
 -- `code::rows` meets its contract: antt computes the rule at all 256 top bytes, and the table is what comes out.
 use mathlib.Core.Path.{refl}
 use Rattle.choose.specs.Ranged.{ranged}
-use Rattle.code.specs.Rows.{entries, rowOf, classOf, cyclesOf, pairsOf, waitsOf, optionsOf, statusFlagsOf, conditionFlagsOf, storesOf}
+use Rattle.code.specs.CodeRows.{rowOf, classOf, cyclesOf, pairsOf, waitsOf, optionsOf, statusFlagsOf, conditionFlagsOf, storesOf}
+use Rattle.code.specs.Entries.{entries}
 use Rattle.code.proofs.rows.Statement.{statement}
 use Rattle.code.proofs.rows.Tie as tie
 

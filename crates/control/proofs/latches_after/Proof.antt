@@ -22,6 +22,6 @@ latches-after-spec =
     (λ c. c .used3 .ensures ∙ sym (in-arm _ _ _ 5 0x76 tt (omega arith) (omega arith)))
     (λ c. c .input-latches .ensures ∙ sym (in-arm _ _ _ 6 0xE2 tt (omega arith) (omega arith)))
     (λ c. c .used4 .ensures ∙ sym (in-arm _ _ _ 7 0xE4 tt (omega arith) (omega arith)))
-    (λ c. c .waiting .ensures ∙ sym (in-arm _ _ _ 8 0xEC tt (omega arith) (omega arith)))
+    (λ c. c .with-modification .ensures ∙ sym (in-arm _ _ _ 8 0xEC tt (omega arith) (omega arith)))
     (λ c. c .with-loaded2 .ensures ∙ sym (in-arm _ _ _ 9 0xEE tt (omega arith) (omega arith)))
     (λ c. c .used5 .ensures ∙ sym (in-rest _ _ _ 0xF0 tt (omega arith))))

@@ -4,11 +4,11 @@ use mathlib.Core.Path.{_≡_, refl, sym, _∙_}
 use native.Mathlib.Omega.{arith}
 use lib.ListN.{length, take}
 use borrow.Author.Needs.{needs}
-use Rattle.attempt.specs.Attempt.{ended}
 use Rattle.engine.specs.Run.{world, runFrom, samplesFrom}
 use Rattle.engine.proofs.Runs.{left, begins, ends, goes-on, stops}
 use Rattle.engine.proofs.attempts.Statement.{statement}
 use Rattle.engine.proofs.attempts.Tie as tie
+use Rattle.state.specs.File.{leaves}
 
 abbrev Inv-loop : tie.InvT-loop
 Inv-loop words table m samples requests₀ file₀ n core₀ microcycles₀ i₀ requests file core microcycles i =
@@ -32,11 +32,11 @@ returns c =
     let a = refused .before .before .before .before .before .before .before .before .before .args in
     let l = refused .before .before .before .before .before .loop in
     let o = refused .before .attempt in
-    rw (c .leaves .ensures) (
+    rw (c .run-end .ensures) (
       l .inv .0,
       sym
           (stops (a .words .now) (take (a .m) (a .table)) (a .samples .now) (a .n) (l .i) (l .file) (l .core) (l .microcycles) (l .requests)
-          (ended (o .last .1 .1 .1 .0) (o .result)) (rw (← refused .before .before .before .sample .ensures) (o .ensures)) (refused .before .before .before .before .loop-test .taken) (refused .if1 .taken))
+          (leaves (o .last .1 .1 .1 .0) (o .result)) (rw (← refused .before .before .before .sample .ensures) (o .ensures)) (refused .before .before .before .before .loop-test .taken) (refused .if1 .taken))
           ∙ l .inv .3,
     )
 
@@ -63,7 +63,7 @@ loop-again c =
       rw (p .ensures)
           (sym
           (goes-on (a .words .now) (take (a .m) (a .table)) (a .samples .now) (a .n) (l .i) (l .file) (l .core) (l .microcycles) (l .requests)
-          (ended (o .last .1 .1 .1 .0) (o .result)) (rw (← c .before .before .before .before .before .before .before .before .before .sample .ensures) (o .ensures)) (c .before .before .before .before .before .before .before .before .before .before .loop-test .taken) (c .before .before .before .before .before .before .if1 .left))
+          (leaves (o .last .1 .1 .1 .0) (o .result)) (rw (← c .before .before .before .before .before .before .before .before .before .sample .ensures) (o .ensures)) (c .before .before .before .before .before .before .before .before .before .before .loop-test .taken) (c .before .before .before .before .before .before .if1 .left))
           ∙ l .inv .3),
     )
 
@@ -74,7 +74,7 @@ returns-2 : tie.Need-returns-2 Inv-loop μ-loop
 returns-2 c =
     let a = c .before .before .before .before .before .before .args in
     let l = c .before .before .loop in
-    rw (c .leaves2 .ensures) (
+    rw (c .run-end2 .ensures) (
       l .inv .0,
       sym (ends (a .words .now) (take (a .m) (a .table)) (a .samples .now) (a .n) (l .i) (l .file) (l .core) (l .microcycles) (l .requests) (c .before .loop-test .left))
           ∙ l .inv .3,

@@ -13,8 +13,8 @@ registers-spec =
     tie.close
     (tie.spec
     (search needs) (search needs) (search needs) (search needs)
-    (λ c. c .seventies .ensures ∙ sym (in-arm _ _ _ 0 0x0 tt (omega arith) (omega arith)))
-    (λ c. c .work .ensures ∙ sym (in-arm _ _ _ 1 0x80 tt (omega arith) (omega arith)))
+    (λ c. c .codes-70-to-77 .ensures ∙ sym (in-arm _ _ _ 0 0x0 tt (omega arith) (omega arith)))
+    (λ c. c .conditioned .ensures ∙ sym (in-arm _ _ _ 1 0x80 tt (omega arith) (omega arith)))
     (λ c. c .input .ensures ∙ sym (in-arm _ _ _ 2 0xE0 tt (omega arith) (omega arith)))
     (λ c. sym (in-arm _ _ _ 3 0xE8 tt (omega arith) (omega arith)))
     (λ c. c .access .ensures ∙ sym (in-arm _ _ _ 4 0xF0 tt (omega arith) (omega arith)))

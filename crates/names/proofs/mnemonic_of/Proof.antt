@@ -1,6 +1,6 @@
 -- `names::mnemonic_of` meets its contract: the table holds the name of each top byte.
 use Rattle.choose.proofs.Table.{firsts-at}
-use Rattle.names.specs.Names.{allMnemonics, mnemonicOf}
+use Rattle.names.specs.Mnemonics.{allMnemonics, mnemonicOf}
 use borrow.Author.Needs.{needs}
 use Rattle.names.proofs.mnemonic_of.Statement.{statement}
 use Rattle.names.proofs.mnemonic_of.Tie as tie

@@ -1,20 +1,20 @@
--- `attempt::looked` meets its contract: no word, no rows, or the scan.
+-- `attempt::outputs` meets its contract: no word, no rows, or the scan.
 use mathlib.Core.Path.{_∙_, sym}
 use borrow.Author.Tests.{lt-ltb, le-ltb}
 use Rattle.numbers.specs.Numbers.{wordAt}
 use Rattle.attempt.specs.Attempt.{outputsOf}
 use Rattle.rows.proofs.Laws.{scan-none}
 use borrow.Author.Needs.{needs}
-use Rattle.attempt.proofs.looked.Statement.{statement}
-use Rattle.attempt.proofs.looked.Tie as tie
+use Rattle.attempt.proofs.outputs.Statement.{statement}
+use Rattle.attempt.proofs.outputs.Tie as tie
 
 returns-3 : tie.Need-returns-3
 unfolding wordAt outputsOf
 returns-3 c = rw (lt-ltb _ _ (c .before .before .before .before .if1 .left), ← c .before .before .quad-at .ensures, ← c .before .inputs .ensures) (c .scan-table .ensures)
 
-pub looked-spec : {M : Type 1} → statement M
+pub outputs-spec : {M : Type 1} → statement M
 unfolding outputsOf
-looked-spec =
+outputs-spec =
     tie.close
     (tie.spec
     (search needs) (search needs)

@@ -1,15 +1,15 @@
--- `execute::seventies` meets its contract: each arm is what its range says.
-use Rattle.execute.specs.Execute.{seventiesOf}
+-- `execute::codes_70_to_77` meets its contract: each arm is what its range says.
+use Rattle.execute.specs.Execute.{codes70To77Of}
 use mathlib.Core.Path.{_∙_, sym}
 use native.Mathlib.Omega.{arith}
 use Rattle.choose.proofs.Ranged.{in-arm, in-rest}
 use borrow.Author.Needs.{needs}
-use Rattle.execute.proofs.seventies.Statement.{statement}
-use Rattle.execute.proofs.seventies.Tie as tie
+use Rattle.execute.proofs.codes_70_to_77.Statement.{statement}
+use Rattle.execute.proofs.codes_70_to_77.Tie as tie
 
-pub seventies-spec : {M : Type 1} → statement M
-unfolding seventiesOf
-seventies-spec =
+pub codes-70-to-77-spec : {M : Type 1} → statement M
+unfolding codes70To77Of
+codes-70-to-77-spec =
     tie.close
     (tie.spec
     (search needs) (search needs) (search needs) (search needs) (search needs)

@@ -11,7 +11,7 @@ use Rattle.choose.specs.Below.{allBelow}
 use Rattle.choose.specs.Ranged.{pick}
 use Rattle.state.specs.File.{slotOf}
 use Rattle.state.proofs.Laws.{slot-below}
-use Rattle.state.specs.Names.{Register, R, G, nameOf, nameAt, Designates, OnePlace, Reached}
+use Rattle.state.specs.Registers.{Register, R, G, nameOf, nameAt, Designates, OnePlace, Reached}
 
 -- ---- one test for each of 8 G and 16 designators
 

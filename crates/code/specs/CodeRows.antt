@@ -4,9 +4,8 @@ use mathlib.Core.Bool.{Bool, true, false, _||_}
 use mathlib.Core.List.{List, [], _∷_}
 use lib.Dec.{eqb}
 use Rattle.choose.specs.Ranged.{bit, pick, ranged}
-use Rattle.choose.specs.Below.{firsts}
 use Rattle.code.specs.declared.Class.{Class}
-use Rattle.code.specs.declared.Row.{Row}
+use Rattle.code.specs.declared.CodeRow.{CodeRow}
 
 -- manual 5.2's four formats; 01: "unlisted are 78-7F, AD, D4-D7 and E8-EB, 17 in all". Each range is named by its end
 abbrev pub classes : List (ℕ × Class)
@@ -133,10 +132,10 @@ storesOf top =
     false
 
 -- the row of an unlisted top byte
-abbrev pub blank : Row
+abbrev pub blank : CodeRow
 blank = record { class = Class.Unlisted; cycles = 0; pairs = 0; waits = 0; options = 0; flags = 0; stores = false }
 
-unfoldable pub rowOf : ℕ → Row
+unfoldable pub rowOf : ℕ → CodeRow
 rowOf top =
     pick (listed (classOf top))
     (record {
@@ -150,36 +149,10 @@ rowOf top =
     })
     blank
 
--- the number of a class, and the class of a number
+-- the number of a class
 abbrev pub classNumber : Class → ℕ
 classNumber Class.Unlisted = 0
 classNumber Class.Jump = 1
 classNumber Class.Conditional = 2
 classNumber Class.Literal = 3
 classNumber Class.Register = 4
-
-unfoldable pub classAt : ℕ → Class
-classAt n = ranged n ((1, Class.Unlisted) ∷ (2, Class.Jump) ∷ (3, Class.Conditional) ∷ (4, Class.Literal) ∷ []) Class.Register
-
--- a row as one number, a hexadecimal digit for each field and two for the flags
-abbrev pub entryOf : Row → ℕ
-entryOf r =
-    classNumber (r .class) + 0x10 * r .cycles + 0x100 * r .pairs + 0x1000 * r .waits + 0x1_0000 * r .options + 0x10_0000 * r .flags +
-    0x1000_0000 * bit (r .stores)
-
--- the rows of all 256 top bytes as numbers
-unfoldable pub entries : List ℕ
-entries = firsts (λ top. entryOf (rowOf top)) 0 0x100
-
--- the row that such a number says
-unfoldable pub rowOfEntry : ℕ → Row
-rowOfEntry n =
-    record {
-      class = classAt (n % 0x10);
-      cycles = n / 0x10 % 0x10;
-      pairs = n / 0x100 % 0x10;
-      waits = n / 0x1000 % 0x10;
-      options = n / 0x1_0000 % 0x10;
-      flags = n / 0x10_0000 % 0x100;
-      stores = eqb (n / 0x1000_0000) 1;
-    }

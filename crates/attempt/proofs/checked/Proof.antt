@@ -1,0 +1,26 @@
+-- `attempt::checked` meets its contract: refused, waiting, or executed.
+use borrow.Author.Tests.{eq-eqb, ne-eqb}
+use Rattle.attempt.specs.Attempt.{checkedOf}
+use borrow.Author.Needs.{needs}
+use Rattle.attempt.proofs.checked.Statement.{statement}
+use Rattle.attempt.proofs.checked.Tie as tie
+
+returns-2 : tie.Need-returns-2
+unfolding checkedOf
+returns-2 c = rw (← c .before .before .before .before .before .refusal .ensures, eq-eqb _ _ (c .before .before .before .before .if1 .left), ← c .before .before .before .waiting .ensures, c .before .before .if2 .taken, c .outcome-of2 .ensures, c .before .placed .ensures)
+
+returns-3 : tie.Need-returns-3
+unfolding checkedOf
+returns-3 c = rw (← c .before .before .before .before .before .refusal .ensures, eq-eqb _ _ (c .before .before .before .before .if1 .left), ← c .before .before .before .waiting .ensures, c .before .before .if2 .left) (c .executed .ensures)
+
+pub checked-spec : {M : Type 1} → statement M
+unfolding checkedOf
+checked-spec =
+    tie.close
+    (tie.spec
+    (search needs) (search needs)
+    (λ c. rw (← c .before .before .refusal .ensures, ne-eqb _ _ (c .before .if1 .taken), c .outcome-of .ensures))
+    (search needs) (search needs) (search needs)
+    returns-2
+    (search needs)
+    returns-3)
