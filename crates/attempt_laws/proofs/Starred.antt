@@ -1,15 +1,30 @@
--- The starred cases of 01, "Checked by hand", hold: one table under one statement about the definitions.
+-- The starred cases of 01, "Checked by hand", hold: one table under one statement about attempts, which the checker computes.
 -- Assumes nothing.
 use lib.Dec.{T}
-use Rattle.choose.specs.Ranged.{ranged}
 use Rattle.alu.specs.Cycle.{addOf, subtractOf, keptOf, onesOf, leftOf, rightOf, cycleOf}
 use Rattle.alu.specs.Marks.{afterOf, afterByteOf, afterWordOf}
-use Rattle.attempt_laws.specs.Starred.{flagOf, core, file, shows, worked, caseHolds, allHold, cases}
+use Rattle.attempt.specs.Attempt.{executedOf, checkedOf, modifiedOf, fetchedOf, attemptedOf, outputsOf, attemptOf}
+use Rattle.attempt.specs.Effect.{literalEffect, registerEffect, effectOf}
+use Rattle.checks.specs.Checks.{oddDesignatorOf, designatorRefusalOf, wordRefusalOf, waitingOf}
+use Rattle.choose.specs.Ranged.{ranged}
+use Rattle.code.specs.CodeRows.{classOf, cyclesOf, pairsOf, waitsOf, optionsOf}
+use Rattle.code.specs.Word.{operandsIn, fieldsIn, apartOf}
+use Rattle.control.specs.Bus.{busAfter, requestOf}
+use Rattle.control.specs.Latches.{latchesAfter}
+use Rattle.control.specs.Next.{onwardOf, nextOf, rrOf, tsrOf, addressAfter}
 use Rattle.cycles.specs.Cycles.{operandOf, stepOf, oneCycleOf, twoCyclesOf}
-use Rattle.execute.specs.Execute.{operationOf, conditionedOf, registersOf}
-use Rattle.plan.specs.Plan.{planOf, conditionMet}
+use Rattle.execute.specs.Execute.{literalOf, operationOf, conditionedOf, registersOf}
+use Rattle.numbers.specs.Numbers.{wordAt}
+use Rattle.plan.specs.Plan.{planOf, conditionMet, literalPlanOf}
+use Rattle.rows.specs.Scan.{scanFrom}
 use Rattle.state.specs.File.{slotOf, highOf, registerOf, writtenOf}
+use Rattle.attempt_laws.specs.Starred.{caseHolds, allHold, cases}
 
 pub starred : T (allHold cases)
-unfolding allHold cases caseHolds worked shows file core flagOf registersOf conditionedOf operationOf planOf conditionMet oneCycleOf twoCyclesOf stepOf operandOf registerOf writtenOf slotOf highOf cycleOf addOf subtractOf keptOf onesOf leftOf rightOf afterOf afterByteOf afterWordOf ranged
+unfolding allHold cases caseHolds
+    attemptOf attemptedOf outputsOf scanFrom fetchedOf modifiedOf wordAt apartOf fieldsIn operandsIn classOf checkedOf
+    wordRefusalOf designatorRefusalOf oddDesignatorOf pairsOf optionsOf waitingOf waitsOf cyclesOf
+    executedOf effectOf literalEffect registerEffect busAfter requestOf latchesAfter addressAfter nextOf onwardOf rrOf tsrOf
+    literalOf literalPlanOf registersOf conditionedOf conditionMet operationOf planOf oneCycleOf twoCyclesOf stepOf operandOf
+    registerOf writtenOf slotOf highOf cycleOf addOf subtractOf keptOf onesOf leftOf rightOf afterOf afterByteOf afterWordOf ranged
 starred = tt
