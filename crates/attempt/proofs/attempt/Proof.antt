@@ -8,7 +8,11 @@ use Rattle.attempt.proofs.attempt.Tie as tie
 
 returns-2 : tie.Need-returns-2
 unfolding attemptOf
-returns-2 c = rw (← c .before .before .outputs .ensures) (c .fetched .ensures ∙ sym (fetches _ _ _ _ _ (c .before .before .before .before .if1 .left) (c .before .before .before .if2 .taken)))
+returns-2 c =
+    let two = c .before .before in
+    let three = two .before in
+    let four = three .before in
+    rw (← two .outputs .ensures) (c .fetched .ensures ∙ sym (fetches _ _ _ _ _ (four .if1 .left) (three .if2 .taken)))
 
 pub attempt-spec : {M : Type 1} → statement M
 unfolding attemptedOf attemptOf
@@ -16,8 +20,14 @@ attempt-spec =
     tie.close
     (tie.spec
     (search needs) (search needs) (search needs)
-    (λ c. rw (c .before .before .before .if1 .taken, c .outcome-of .ensures, c .before .placed .ensures, c .before .before .reset .ensures))
+    (λ c.
+    let two = c .before .before in
+    let three = two .before in
+    rw (three .if1 .taken, c .outcome-of .ensures, c .before .placed .ensures, two .reset .ensures))
     (search needs) (search needs)
     returns-2
     (search needs) (search needs)
-    (λ c. rw (c .before .before .before .if1 .left, c .before .before .if2 .left, c .outcome-of2 .ensures, c .before .placed2 .ensures)))
+    (λ c.
+    let two = c .before .before in
+    let three = two .before in
+    rw (three .if1 .left, two .if2 .left, c .outcome-of2 .ensures, c .before .placed2 .ensures)))

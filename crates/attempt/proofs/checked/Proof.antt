@@ -7,11 +7,28 @@ use Rattle.attempt.proofs.checked.Tie as tie
 
 returns-2 : tie.Need-returns-2
 unfolding checkedOf
-returns-2 c = rw (← c .before .before .before .before .before .refusal .ensures, eq-eqb _ _ (c .before .before .before .before .if1 .left), ← c .before .before .before .waiting .ensures, c .before .before .if2 .taken, c .outcome-of2 .ensures, c .before .placed .ensures)
+returns-2 c =
+    let two = c .before .before in
+    let three = two .before in
+    let four = three .before in
+    let five = four .before in
+    rw (
+      ← five .refusal .ensures,
+      eq-eqb _ _ (four .if1 .left),
+      ← three .waiting .ensures,
+      two .if2 .taken,
+      c .outcome-of2 .ensures,
+      c .before .placed .ensures,
+    )
 
 returns-3 : tie.Need-returns-3
 unfolding checkedOf
-returns-3 c = rw (← c .before .before .before .before .before .refusal .ensures, eq-eqb _ _ (c .before .before .before .before .if1 .left), ← c .before .before .before .waiting .ensures, c .before .before .if2 .left) (c .executed .ensures)
+returns-3 c =
+    let two = c .before .before in
+    let three = two .before in
+    let four = three .before in
+    let five = four .before in
+    rw (← five .refusal .ensures, eq-eqb _ _ (four .if1 .left), ← three .waiting .ensures, two .if2 .left) (c .executed .ensures)
 
 pub checked-spec : {M : Type 1} → statement M
 unfolding checkedOf

@@ -11,5 +11,9 @@ effect-of-spec =
     (tie.spec
     (search needs) (search needs) (search needs) (search needs) (search needs) (search needs)
     (λ c. rw (c .before .before .operands .given .1, c .jumped .ensures))
-    (λ c. rw (c .before .before .before .operands2 .given .1) (c .literal .ensures))
-    (λ c. rw (c .before .before .before .operands3 .given .1) (c .register .ensures)))
+    (λ c.
+    let three = c .before .before .before in
+    rw (three .operands2 .given .1) (c .literal .ensures))
+    (λ c.
+    let three = c .before .before .before in
+    rw (three .operands3 .given .1) (c .register .ensures)))

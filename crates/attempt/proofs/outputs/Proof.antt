@@ -10,7 +10,10 @@ use Rattle.attempt.proofs.outputs.Tie as tie
 
 returns-3 : tie.Need-returns-3
 unfolding wordAt outputsOf
-returns-3 c = rw (lt-ltb _ _ (c .before .before .before .before .if1 .left), ← c .before .before .quad-at .ensures, ← c .before .inputs .ensures) (c .scan-table .ensures)
+returns-3 c =
+    let two = c .before .before in
+    let four = two .before .before in
+    rw (lt-ltb _ _ (four .if1 .left), ← two .quad-at .ensures, ← c .before .inputs .ensures) (c .scan-table .ensures)
 
 pub outputs-spec : {M : Type 1} → statement M
 unfolding outputsOf

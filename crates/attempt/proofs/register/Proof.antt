@@ -6,7 +6,22 @@ use Rattle.attempt.proofs.register.Tie as tie
 
 returns : tie.Need-returns
 unfolding registerEffect
-returns c = rw (← c .registers .ensures, c .before .before .request .ensures, c .before .before .before .latches-after .ensures, c .before .before .before .before .bus-after .ensures, c .before .before .before .before .before .pair .ensures, c .before .before .before .before .before .before .register2 .ensures, c .before .before .before .before .before .before .before .before .register .ensures)
+returns c =
+    let two = c .before .before in
+    let three = two .before in
+    let four = three .before in
+    let five = four .before in
+    let six = five .before in
+    let eight = six .before .before in
+    rw (
+      ← c .registers .ensures,
+      two .request .ensures,
+      three .latches-after .ensures,
+      four .bus-after .ensures,
+      five .pair .ensures,
+      six .register2 .ensures,
+      eight .register .ensures,
+    )
 
 pub register-spec : {M : Type 1} → statement M
 register-spec =

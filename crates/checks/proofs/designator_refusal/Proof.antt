@@ -7,11 +7,19 @@ use Rattle.checks.proofs.designator_refusal.Tie as tie
 
 returns-3 : tie.Need-returns-3
 unfolding designatorRefusalOf
-returns-3 c = rw (ne-eqb _ _ (c .before .before .before .before .if1 .left), ← c .before .before .before .odd-designator .ensures, c .before .before .if2 .left, ← c .before .options .ensures, lt-ltb _ _ (c .if3 .taken))
+returns-3 c =
+    let two = c .before .before in
+    let three = two .before in
+    let four = three .before in
+    rw (ne-eqb _ _ (four .if1 .left), ← three .odd-designator .ensures, two .if2 .left, ← c .before .options .ensures, lt-ltb _ _ (c .if3 .taken))
 
 returns-4 : tie.Need-returns-4
 unfolding designatorRefusalOf
-returns-4 c = rw (ne-eqb _ _ (c .before .before .before .before .if1 .left), ← c .before .before .before .odd-designator .ensures, c .before .before .if2 .left, ← c .before .options .ensures, le-ltb _ _ (c .if3 .left))
+returns-4 c =
+    let two = c .before .before in
+    let three = two .before in
+    let four = three .before in
+    rw (ne-eqb _ _ (four .if1 .left), ← three .odd-designator .ensures, two .if2 .left, ← c .before .options .ensures, le-ltb _ _ (c .if3 .left))
 
 pub designator-refusal-spec : {M : Type 1} → statement M
 unfolding designatorRefusalOf

@@ -6,7 +6,9 @@ use Rattle.control.proofs.inputs.Tie as tie
 
 returns : tie.Need-returns
 unfolding inputsOf
-returns c = rw (c .before .before .before .tr-byte .ensures)
+returns c =
+    let three = c .before .before .before in
+    rw (three .tr-byte .ensures)
 
 pub inputs-spec : {M : Type 1} → statement M
 inputs-spec = tie.close (tie.spec (search needs) (search needs) (search needs) (search needs) returns)

@@ -6,11 +6,19 @@ use Rattle.cycles.proofs.two_cycles.Tie as tie
 
 returns : tie.Need-returns
 unfolding twoCyclesOf
-returns c = rw (← c .before .before .before .before .before .before .high-first .ensures, c .before .before .before .before .before .if1 .taken, c .after-word .ensures, ← c .before .before .before .step .ensures, ← c .before .step2 .ensures)
+returns c =
+    let three = c .before .before .before in
+    let five = three .before .before in
+    let six = five .before in
+    rw (← six .high-first .ensures, five .if1 .taken, c .after-word .ensures, ← three .step .ensures, ← c .before .step2 .ensures)
 
 returns-2 : tie.Need-returns-2
 unfolding twoCyclesOf
-returns-2 c = rw (← c .before .before .before .before .before .before .high-first .ensures, c .before .before .before .before .before .if1 .left, c .after-word2 .ensures, ← c .before .before .before .step3 .ensures, ← c .before .step4 .ensures)
+returns-2 c =
+    let three = c .before .before .before in
+    let five = three .before .before in
+    let six = five .before in
+    rw (← six .high-first .ensures, five .if1 .left, c .after-word2 .ensures, ← three .step3 .ensures, ← c .before .step4 .ensures)
 
 pub two-cycles-spec : {M : Type 1} → statement M
 two-cycles-spec =

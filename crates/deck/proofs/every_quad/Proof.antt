@@ -30,13 +30,16 @@ loop-holds c = (zero-le, refl)
 returns : tie.Need-returns Inv-loop μ-loop
 unfolding everyQuad
 returns c =
-    let args = c .before .before .before .before .before .args in
-    sym (all-fails (quad (args .part .now) (args .third) (args .fourth)) _ (c .before .before .before .before .loop .i) (c .before .before .before .loop-test .taken) (not-true _ (c .if1 .taken)))
+    let inside = c .before .before .before in
+    let at = inside .before in
+    let args = at .before .args in
+    sym (all-fails (quad (args .part .now) (args .third) (args .fourth)) _ (at .loop .i) (inside .loop-test .taken) (not-true _ (c .if1 .taken)))
 
 loop-again : tie.Need-loop-again Inv-loop μ-loop
 loop-again c =
-    let args = c .before .before .before .before .before .args in
-    (omega arith, all-more (quad (args .part .now) (args .third) (args .fourth)) (c .before .before .before .before .loop .i) (c .before .before .before .before .loop .inv .1) (not-false _ (c .if1 .left)))
+    let at = c .before .before .before .before in
+    let args = at .before .args in
+    (omega arith, all-more (quad (args .part .now) (args .third) (args .fourth)) (at .loop .i) (at .loop .inv .1) (not-false _ (c .if1 .left)))
 
 returns-2 : tie.Need-returns-2 Inv-loop μ-loop
 unfolding everyQuad

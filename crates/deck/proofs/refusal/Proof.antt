@@ -11,33 +11,42 @@ use Rattle.deck.proofs.refusal.Statement.{statement}
 use Rattle.deck.proofs.refusal.Tie as tie
 
 -- each test is that of the definition
-whole-is : (c : tie.After-whole) → wholeOf (c .before .before .args .deck .now) && eqb (c .before .before .args .state-len) 41 ≡ c .whole .result && eqb (c .before .before .args .state-len) 41
+whole-is : (c : tie.After-whole) → let args = c .before .before .args in
+    wholeOf (args .deck .now) && eqb (args .state-len) 41 ≡ c .whole .result && eqb (args .state-len) 41
 whole-is c = rw (c .whole .ensures)
 
-state-is : (c : tie.After-in-range) → stateInRange (statePart (c .before .before .before .before .before .args .deck .now)) ≡ c .in-range .result
+state-is : (c : tie.After-in-range) → let args = c .before .before .before .before .before .args in
+    stateInRange (statePart (args .deck .now)) ≡ c .in-range .result
 state-is c = rw (c .in-range .ensures, c .before .state .ensures)
 
-words-is : (c : tie.After-words-in-range) → wordsInRange (wordsPart (c .before .before .before .before .before .before .before .before .args .deck .now)) ≡ c .words-in-range .result
+words-is : (c : tie.After-words-in-range) → let args = c .before .before .before .before .before .before .before .before .args in
+    wordsInRange (wordsPart (args .deck .now)) ≡ c .words-in-range .result
 words-is c = rw (c .words-in-range .ensures, c .before .words .ensures)
 
-rows-is : (c : tie.After-rows-in-range) → rowsPartInRange (rowsPart (c .before .before .before .before .before .before .before .before .before .before .before .args .deck .now)) ≡ c .rows-in-range .result
+rows-is : (c : tie.After-rows-in-range) → let args = c .before .before .before .before .before .before .before .before .before .before .before .args in
+    rowsPartInRange (rowsPart (args .deck .now)) ≡ c .rows-in-range .result
 rows-is c = rw (c .rows-in-range .ensures, c .before .rows .ensures)
 
-samples-is : (c : tie.After-samples-in-range) → samplesInRange (samplesPart (c .before .before .before .before .before .before .before .before .before .before .before .before .before .before .args .deck .now)) && placesEnough (samplesPart (c .before .before .before .before .before .before .before .before .before .before .before .before .before .before .args .deck .now)) (c .before .before .before .before .before .before .before .before .before .before .before .before .before .before .args .requests-len)
-    ≡ c .samples-in-range .result && placesEnough (c .before .samples .result .now) (c .before .before .before .before .before .before .before .before .before .before .before .before .before .before .args .requests-len)
+samples-is : (c : tie.After-samples-in-range) → let args = c .before .before .before .before .before .before .before .before .before .before .before .before .before .before .args in
+    samplesInRange (samplesPart (args .deck .now)) && placesEnough (samplesPart (args .deck .now)) (args .requests-len)
+    ≡ c .samples-in-range .result && placesEnough (c .before .samples .result .now) (args .requests-len)
 samples-is c = rw (c .samples-in-range .ensures, c .before .samples .ensures)
 
 -- and holds where the next one is made
-whole-holds : (c : tie.Else1) → wholeOf (c .before .before .before .args .deck .now) && eqb (c .before .before .before .args .state-len) 41 ≡ true
+whole-holds : (c : tie.Else1) → let args = c .before .before .before .args in
+    wholeOf (args .deck .now) && eqb (args .state-len) 41 ≡ true
 whole-holds c = whole-is (c .before) ∙ not-false _ (c .if1 .left)
 
-state-holds : (c : tie.Else2) → stateInRange (statePart (c .before .before .before .before .before .before .args .deck .now)) ≡ true
+state-holds : (c : tie.Else2) → let args = c .before .before .before .before .before .before .args in
+    stateInRange (statePart (args .deck .now)) ≡ true
 state-holds c = state-is (c .before) ∙ not-false _ (c .if2 .left)
 
-words-hold : (c : tie.Else3) → wordsInRange (wordsPart (c .before .before .before .before .before .before .before .before .before .args .deck .now)) ≡ true
+words-hold : (c : tie.Else3) → let args = c .before .before .before .before .before .before .before .before .before .args in
+    wordsInRange (wordsPart (args .deck .now)) ≡ true
 words-hold c = words-is (c .before) ∙ not-false _ (c .if3 .left)
 
-rows-hold : (c : tie.Else4) → rowsPartInRange (rowsPart (c .before .before .before .before .before .before .before .before .before .before .before .before .args .deck .now)) ≡ true
+rows-hold : (c : tie.Else4) → let args = c .before .before .before .before .before .before .before .before .before .before .before .before .args in
+    rowsPartInRange (rowsPart (args .deck .now)) ≡ true
 rows-hold c = rows-is (c .before) ∙ not-false _ (c .if4 .left)
 
 returns : tie.Need-returns
@@ -46,34 +55,42 @@ returns c = rw (whole-is (c .before) ∙ not-true _ (c .if1 .taken))
 
 returns-2 : tie.Need-returns-2
 unfolding deckRefusalOf
-returns-2 c = rw (whole-holds (c .before .before .before), state-is (c .before) ∙ not-true _ (c .if2 .taken))
+returns-2 c =
+    let whole = c .before .before .before in
+    rw (whole-holds whole, state-is (c .before) ∙ not-true _ (c .if2 .taken))
 
 returns-3 : tie.Need-returns-3
 unfolding deckRefusalOf
-returns-3 c = rw (whole-holds (c .before .before .before .before .before .before), state-holds (c .before .before .before), words-is (c .before) ∙ not-true _ (c .if3 .taken))
+returns-3 c =
+    let state = c .before .before .before in
+    let whole = state .before .before .before in
+    rw (whole-holds whole, state-holds state, words-is (c .before) ∙ not-true _ (c .if3 .taken))
 
 returns-4 : tie.Need-returns-4
 unfolding deckRefusalOf
 returns-4 c =
-    let three = c .before .before .before in
-    let two = three .before .before .before in
-    rw (whole-holds (two .before .before .before), state-holds two, words-hold three, rows-is (c .before) ∙ not-true _ (c .if4 .taken))
+    let words = c .before .before .before in
+    let state = words .before .before .before in
+    let whole = state .before .before .before in
+    rw (whole-holds whole, state-holds state, words-hold words, rows-is (c .before) ∙ not-true _ (c .if4 .taken))
 
 returns-5 : tie.Need-returns-5
 unfolding deckRefusalOf
 returns-5 c =
-    let four = c .before .before .before in
-    let three = four .before .before .before in
-    let two = three .before .before .before in
-    rw (whole-holds (two .before .before .before), state-holds two, words-hold three, rows-hold four, samples-is (c .before) ∙ not-true _ (c .if5 .taken))
+    let rows = c .before .before .before in
+    let words = rows .before .before .before in
+    let state = words .before .before .before in
+    let whole = state .before .before .before in
+    rw (whole-holds whole, state-holds state, words-hold words, rows-hold rows, samples-is (c .before) ∙ not-true _ (c .if5 .taken))
 
 returns-6 : tie.Need-returns-6
 unfolding deckRefusalOf
 returns-6 c =
-    let four = c .before .before .before in
-    let three = four .before .before .before in
-    let two = three .before .before .before in
-    rw (whole-holds (two .before .before .before), state-holds two, words-hold three, rows-hold four, samples-is (c .before) ∙ not-false _ (c .if5 .left))
+    let rows = c .before .before .before in
+    let words = rows .before .before .before in
+    let state = words .before .before .before in
+    let whole = state .before .before .before in
+    rw (whole-holds whole, state-holds state, words-hold words, rows-hold rows, samples-is (c .before) ∙ not-false _ (c .if5 .left))
 
 pub refusal-spec : {M : Type 1} → statement M
 refusal-spec =

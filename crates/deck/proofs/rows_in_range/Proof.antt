@@ -28,13 +28,16 @@ abbrev μ-loop : tie.MeasureT-loop
 μ-loop part n table i₀ i = n - i
 
 -- what `in_range` says of row i of the table is the test of row i
-passed : (c : tie.After-in-range Inv-loop μ-loop) → c .in-range .result ≡ row (c .before .before .before .before .before .before .before .args .part .now) (c .before .before .before .loop .i)
+passed : (c : tie.After-in-range Inv-loop μ-loop) → let at = c .before .before .before in
+    c .in-range .result ≡ row (at .before .before .before .before .args .part .now) (at .loop .i)
 passed c =
-    let i = c .before .before .before .loop .i in
-    let part = c .before .before .before .before .before .before .before .args .part .now in
+    let at = c .before .before .before in
+    let loaded = at .before in
+    let few = loaded .before in
+    let start = few .before .before in
     c .in-range .ensures
-    ∙ ap (λ (l : List Row). rowInRange (getD l i emptyRow)) (c .before .before .before .before .load .ensures)
-    ∙ ap rowInRange (table-row part i (c .before .before .loop-test .taken) (c .before .before .before .before .before .if1 .left))
+    ∙ ap (λ (l : List Row). rowInRange (getD l (at .loop .i) emptyRow)) (loaded .load .ensures)
+    ∙ ap rowInRange (table-row (start .args .part .now) (at .loop .i) (c .before .before .loop-test .taken) (few .if1 .left))
 
 returns : tie.Need-returns Inv-loop μ-loop
 unfolding rowsPartInRange
@@ -46,22 +49,27 @@ loop-holds c = (zero-le, refl)
 returns-2 : tie.Need-returns-2 Inv-loop μ-loop
 unfolding rowsPartInRange
 returns-2 c =
-    let at = c .before .before .before .before in
-    let start = at .before .before .before .before in
-    rw (le-leb _ 128 (at .before .before .if1 .left), rows-every (start .args .part .now) (length (start .args .part .now) / 16))
-    (sym (all-fails (row (start .args .part .now)) _ (at .loop .i) (c .before .before .before .loop-test .taken) (sym (passed (c .before)) ∙ not-true _ (c .if2 .taken))))
+    let inside = c .before .before .before in
+    let at = inside .before in
+    let few = at .before .before in
+    let part = few .before .before .args .part .now in
+    rw (le-leb _ 128 (few .if1 .left), rows-every part (length part / 16))
+    (sym (all-fails (row part) _ (at .loop .i) (inside .loop-test .taken) (sym (passed (c .before)) ∙ not-true _ (c .if2 .taken))))
 
 loop-again : tie.Need-loop-again Inv-loop μ-loop
 loop-again c =
     let at = c .before .before .before .before in
-    (omega arith, all-more (row (at .before .before .before .before .args .part .now)) (at .loop .i) (at .loop .inv .1) (sym (passed (c .before)) ∙ not-false _ (c .if2 .left)))
+    let start = at .before .before .before .before in
+    let holds = sym (passed (c .before)) ∙ not-false _ (c .if2 .left) in
+    (omega arith, all-more (row (start .args .part .now)) (at .loop .i) (at .loop .inv .1) holds)
 
 returns-3 : tie.Need-returns-3 Inv-loop μ-loop
 unfolding rowsPartInRange
 returns-3 c =
-    let start = c .before .before .before .before .before in
-    let e : c .before .loop .i ≡ length (start .args .part .now) / 16 = omega arith in
-    rw (le-leb _ 128 (c .before .before .before .if1 .left), rows-every (start .args .part .now) (length (start .args .part .now) / 16)) (sym (rw e at (c .before .loop .inv .1)))
+    let few = c .before .before .before in
+    let part = few .before .before .args .part .now in
+    let e : c .before .loop .i ≡ length part / 16 = omega arith in
+    rw (le-leb _ 128 (few .if1 .left), rows-every part (length part / 16)) (sym (rw e at (c .before .loop .inv .1)))
 
 pub rows-in-range-spec : {M : Type 1} → statement M
 rows-in-range-spec =

@@ -9,15 +9,21 @@ use borrow.Author.Needs.{needs}
 use Rattle.deck.proofs.section.Statement.{statement}
 use Rattle.deck.proofs.section.Tie as tie
 
-within : (c : tie.Then1) → sectionEnd (c .before .before .before .args .deck .now) (c .before .before .before .args .a) (c .before .before .before .args .size) ≤ length (c .before .before .before .args .deck .now)
-within c = c .before .before .before .pre (sym (c .before .whole .ensures) ∙ c .if1 .taken)
+within : (c : tie.Then1) → let args = c .before .before .before .args in
+    sectionEnd (args .deck .now) (args .a) (args .size) ≤ length (args .deck .now)
+within c =
+    let three = c .before .before .before in
+    three .pre (sym (c .before .whole .ensures) ∙ c .if1 .taken)
 
-room : (c : tie.After-pair-at) → c .before .before .before .before .args .a + 2 + c .before .before .before .before .args .size * c .pair-at .result ≤ length (c .before .before .before .before .args .deck .now)
+room : (c : tie.After-pair-at) → let args = c .before .before .before .before .args in
+    args .a + 2 + args .size * c .pair-at .result ≤ length (args .deck .now)
 unfolding sectionEnd
 room c = rw (c .pair-at .ensures) (within (c .before))
 
 add-from : tie.Need-add-from
-add-from c = omega (arith, section-end-ge (c .before .before .before .args .deck .now) (c .before .before .before .args .a) (c .before .before .before .args .size), within c)
+add-from c =
+    let three = c .before .before .before in
+    omega (arith, section-end-ge (three .args .deck .now) (three .args .a) (three .args .size), within c)
 
 mul-end : tie.Need-mul-end
 mul-end c = omega (arith, room c)
@@ -32,9 +38,10 @@ returns : tie.Need-returns
 unfolding sectionOf
 returns c =
     let count = c .before .pair-at .result in
-    let args = c .before .before .before .before .before .args in
+    let tested = c .before .before in
+    let args = tested .before .before .before .args in
     let e : args .a + 2 + args .size * count - (args .a + 2) ≡ args .size * count = omega arith in
-    rw (e, c .before .pair-at .ensures, sym (c .before .before .before .whole .ensures) ∙ c .before .before .if1 .taken)
+    rw (e, c .before .pair-at .ensures, sym (tested .before .whole .ensures) ∙ tested .if1 .taken)
 
 returns-2 : tie.Need-returns-2
 unfolding sectionOf

@@ -6,7 +6,10 @@ use Rattle.deck.proofs.sections.Tie as tie
 
 returns : tie.Need-returns
 unfolding layoutOf
-returns c = rw (c .section-end4 .ensures .0, c .before .section-end3 .ensures .0, c .before .before .section-end2 .ensures .0, c .before .before .before .section-end .ensures .0)
+returns c =
+    let two = c .before .before in
+    let three = two .before in
+    rw (c .section-end4 .ensures .0, c .before .section-end3 .ensures .0, two .section-end2 .ensures .0, three .section-end .ensures .0)
 
 pub sections-spec : {M : Type 1} → statement M
 sections-spec =

@@ -12,8 +12,9 @@ use Rattle.state.specs.File.{leaves}
 
 abbrev Inv-loop : tie.InvT-loop
 Inv-loop words table m samples requests₀ file₀ n core₀ microcycles₀ i₀ requests file core microcycles i =
+    let rows = take m table in
     (i ≤ n) × (length requests ≡ length requests₀) × (microcycles ≤ 255 * i)
-    × (left words (take m table) samples n i file core microcycles requests ≡ runFrom words (take m table) (samplesFrom samples 0 n) (world file₀ core₀ 0 0 0 requests₀))
+    × (left words rows samples n i file core microcycles requests ≡ runFrom words rows (samplesFrom samples 0 n) (world file₀ core₀ 0 0 0 requests₀))
 
 abbrev μ-loop : tie.MeasureT-loop
 μ-loop words table m samples requests₀ file₀ n core₀ microcycles₀ i₀ requests file core microcycles i = n - i
@@ -21,64 +22,80 @@ abbrev μ-loop : tie.MeasureT-loop
 loop-holds : tie.Need-loop-holds Inv-loop μ-loop
 loop-holds c =
     let a = c .before .before .before .args in
-    (search needs, refl, search needs, begins (a .words .now) (take (a .m) (a .table)) (a .samples .now) (a .n) 0 (a .file .now) (a .first) 0 (a .requests .now) refl)
+    let whole = begins (a .words .now) (take (a .m) (a .table)) (a .samples .now) (a .n) 0 (a .file .now) (a .first) 0 (a .requests .now) refl in
+    (search needs, refl, search needs, whole)
 
 same-length : tie.Need-same-length Inv-loop μ-loop
-same-length c = c .before .before .before .before .before .before .loop .inv .1
+same-length c =
+    let six = c .before .before .before .before .before .before in
+    six .loop .inv .1
 
 returns : tie.Need-returns Inv-loop μ-loop
 returns c =
     let refused = c .before in
-    let a = refused .before .before .before .before .before .before .before .before .before .args in
-    let l = refused .before .before .before .before .before .loop in
+    let sampled = refused .before .before .before in
+    let inside = sampled .before in
+    let l = inside .before .loop in
+    let a = inside .before .before .before .before .before .args in
     let o = refused .before .attempt in
+    let e = leaves (o .last .1 .1 .1 .0) (o .result) in
+    let stopped = stops (a .words .now) (take (a .m) (a .table)) (a .samples .now) (a .n) (l .i) (l .file) (l .core) (l .microcycles) (l .requests) in
     rw (c .run-end .ensures) (
       l .inv .0,
-      sym
-          (stops (a .words .now) (take (a .m) (a .table)) (a .samples .now) (a .n) (l .i) (l .file) (l .core) (l .microcycles) (l .requests)
-          (leaves (o .last .1 .1 .1 .0) (o .result)) (rw (← refused .before .before .before .sample .ensures) (o .ensures)) (refused .before .before .before .before .loop-test .taken) (refused .if1 .taken))
-          ∙ l .inv .3,
+      sym (stopped e (rw (← sampled .sample .ensures) (o .ensures)) (inside .loop-test .taken) (refused .if1 .taken)) ∙ l .inv .3,
     )
 
 add-microcycles : tie.Need-add-microcycles Inv-loop μ-loop
 add-microcycles c =
-    let l = c .before .before .before .before .before .before .before .before .before .before .loop in
-    omega (arith, l .inv .2, c .before .before .before .before .before .before .before .before .before .loop-test .taken, c .before .before .before .before .before .before .before .before .before .before .before .before .before .before .pre .0)
+    let inside = c .before .before .before .before .before .before .before .before .before in
+    let at = inside .before in
+    let start = at .before .before .before .before in
+    omega (arith, at .loop .inv .2, inside .loop-test .taken, start .pre .0)
 
 add-i : tie.Need-add-i Inv-loop μ-loop
-add-i c = omega (arith, c .before .before .before .before .before .before .before .before .before .before .loop-test .taken, c .before .before .before .before .before .before .before .before .before .before .before .before .before .before .before .pre .0)
+add-i c =
+    let inside = c .before .before .before .before .before .before .before .before .before .before in
+    let start = inside .before .before .before .before .before in
+    omega (arith, inside .loop-test .taken, start .pre .0)
 
 loop-less : tie.Need-loop-less Inv-loop μ-loop
-loop-less c = omega (arith, c .before .before .before .before .before .before .before .before .before .before .loop-test .taken)
+loop-less c =
+    let inside = c .before .before .before .before .before .before .before .before .before .before in
+    omega (arith, inside .loop-test .taken)
 
 loop-again : tie.Need-loop-again Inv-loop μ-loop
-loop-again c =
-    let a = c .before .before .before .before .before .before .before .before .before .before .before .before .before .before .before .args in
-    let l = c .before .before .before .before .before .before .before .before .before .before .before .loop in
-    let o = c .before .before .before .before .before .before .before .attempt in
-    let p = c .before .before .before .before .put4 in (
-      omega (arith, c .before .before .before .before .before .before .before .before .before .before .loop-test .taken),
-      p .kept .0 ∙ l .inv .1,
-      omega (arith, l .inv .2),
-      rw (p .ensures)
-          (sym
-          (goes-on (a .words .now) (take (a .m) (a .table)) (a .samples .now) (a .n) (l .i) (l .file) (l .core) (l .microcycles) (l .requests)
-          (leaves (o .last .1 .1 .1 .0) (o .result)) (rw (← c .before .before .before .before .before .before .before .before .before .sample .ensures) (o .ensures)) (c .before .before .before .before .before .before .before .before .before .before .loop-test .taken) (c .before .before .before .before .before .before .if1 .left))
-          ∙ l .inv .3),
-    )
+loop-again c = (
+  let inside = c .before .before .before .before .before .before .before .before .before .before in
+      omega (arith, inside .loop-test .taken),
+  let put = c .before .before .before .before in
+      let at = put .before .before .before .before .before .before .before in
+      put .put4 .kept .0 ∙ at .loop .inv .1,
+  let at = c .before .before .before .before .before .before .before .before .before .before .before in
+      omega (arith, at .loop .inv .2),
+  let put = c .before .before .before .before in
+      let passed = put .before .before in
+      let attempted = passed .before in
+      let sampled = attempted .before .before in
+      let inside = sampled .before in
+      let l = inside .before .loop in
+      let a = inside .before .before .before .before .before .args in
+      let o = attempted .attempt in
+      let e = leaves (o .last .1 .1 .1 .0) (o .result) in
+      let next = goes-on (a .words .now) (take (a .m) (a .table)) (a .samples .now) (a .n) (l .i) (l .file) (l .core) (l .microcycles) (l .requests) in
+      rw (put .put4 .ensures)
+      (sym (next e (rw (← sampled .sample .ensures) (o .ensures)) (inside .loop-test .taken) (passed .if1 .left)) ∙ l .inv .3),
+)
 
 same-length-2 : tie.Need-same-length-2 Inv-loop μ-loop
 same-length-2 c = c .before .before .loop .inv .1
 
 returns-2 : tie.Need-returns-2 Inv-loop μ-loop
 returns-2 c =
-    let a = c .before .before .before .before .before .before .args in
-    let l = c .before .before .loop in
-    rw (c .run-end2 .ensures) (
-      l .inv .0,
-      sym (ends (a .words .now) (take (a .m) (a .table)) (a .samples .now) (a .n) (l .i) (l .file) (l .core) (l .microcycles) (l .requests) (c .before .loop-test .left))
-          ∙ l .inv .3,
-    )
+    let at = c .before .before in
+    let l = at .loop in
+    let a = at .before .before .before .before .args in
+    let ended = ends (a .words .now) (take (a .m) (a .table)) (a .samples .now) (a .n) (l .i) (l .file) (l .core) (l .microcycles) (l .requests) in
+    rw (c .run-end2 .ensures) (l .inv .0, sym (ended (c .before .loop-test .left)) ∙ l .inv .3)
 
 pub attempts-spec : {M : Type 1} → statement M
 attempts-spec =

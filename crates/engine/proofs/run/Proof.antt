@@ -14,20 +14,46 @@ returns : tie.Need-returns
 returns c = rw (c .before .refusal .ensures) (refuses _ _ _ (λ z. c .if1 .taken (c .before .refusal .ensures ∙ z)))
 
 attempts-requires : tie.Need-attempts-requires
-attempts-requires c κs = rw (c .before .before .before .samples .ensures) (places _ _ _ (sym (c .before .before .before .before .before .before .before .before .before .before .refusal .ensures) ∙ c .before .before .before .before .before .before .before .before .before .if1 .left))
+attempts-requires c κs =
+    let three = c .before .before .before in
+    let nine = three .before .before .before .before .before .before in
+    let ten = nine .before in
+    rw (three .samples .ensures) (places _ _ _ (sym (ten .refusal .ensures) ∙ nine .if1 .left))
 
 cast-t29 : tie.Need-cast-t29
-cast-t29 c = omega (arith, c .before .before .before .before .before .before .before .before .before .before .attempts .ensures .0, places _ _ _ (sym (c .before .before .before .before .before .before .before .before .before .before .before .before .before .before .before .before .before .before .before .before .before .refusal .ensures) ∙ c .before .before .before .before .before .before .before .before .before .before .before .before .before .before .before .before .before .before .before .before .if1 .left) .0, ap (λ (l : List ℕ). length l) (c .before .before .before .before .before .before .before .before .before .before .before .before .before .before .samples .ensures))
+cast-t29 c =
+    let ten = c .before .before .before .before .before .before .before .before .before .before in
+    let fourteen = ten .before .before .before .before in
+    let twenty = fourteen .before .before .before .before .before .before in
+    let twenty-one = twenty .before in
+    omega (
+      arith,
+      ten .attempts .ensures .0,
+      places _ _ _ (sym (twenty-one .refusal .ensures) ∙ twenty .if1 .left) .0,
+      ap (λ (l : List ℕ). length l) (fourteen .samples .ensures),
+    )
 
 returns-2 : tie.Need-returns-2
 returns-2 c =
-    let ran = c .before .before .before .before .before .before .before .before .before .before .attempts in
-    let a = c .before .before .before .before .before .before .before .before .before .before .before .before .before .before .before .before .before .before .before .before .before .before .before .before .before .args in
-    let loaded = rw (c .before .before .before .before .before .before .before .before .before .before .before .before .before .before .before .before .before .before .before .state .ensures) at (c .before .before .before .before .before .before .before .before .before .before .before .before .before .before .before .before .before .load .ensures) in
-    rw (c .before .before .before .before .store .ensures)
-    (answers (a .deck .now) (a .requests .now) (a .state .now) (sym (c .before .before .before .before .before .before .before .before .before .before .before .before .before .before .before .before .before .before .before .before .before .refusal .ensures) ∙ c .before .before .before .before .before .before .before .before .before .before .before .before .before .before .before .before .before .before .before .before .if1 .left) (worldOf (ran .result) (ran .last .1 .1 .1 .1 .1 .0) (ran .last .1 .1 .1 .1 .0))
-    (ran .ensures .1
-    ∙ same-run (a .deck .now) (a .requests .now) (a .state .now) (sym (c .before .before .before .before .before .before .before .before .before .before .before .before .before .before .before .before .before .before .before .before .before .refusal .ensures) ∙ c .before .before .before .before .before .before .before .before .before .before .before .before .before .before .before .before .before .before .before .before .if1 .left) _ _ _ _ _ _ (c .before .before .before .before .before .before .before .before .before .before .before .before .before .words .ensures) (c .before .before .before .before .before .before .before .before .before .before .before .before .before .before .samples .ensures) (c .before .before .before .before .before .before .before .before .before .before .before .before .before .before .before .before .rows .ensures) (c .before .before .before .before .before .before .before .before .before .before .before .before .before .before .before .load2 .ensures) loaded))
+    let stored = c .before .before .before .before in
+    let ran = stored .before .before .before .before .before .before in
+    let words = ran .before .before .before in
+    let samples = words .before in
+    let table = samples .before in
+    let part = table .before in
+    let loaded = part .before in
+    let section = loaded .before .before in
+    let let-in = section .before in
+    let asked = let-in .before in
+    let a = asked .before .before .before .before .args in
+    let accepted = sym (asked .refusal .ensures) ∙ let-in .if1 .left in
+    let state = rw (section .state .ensures) at (loaded .load .ensures) in
+    let run = ran .attempts in
+    rw (stored .store .ensures)
+    (answers (a .deck .now) (a .requests .now) (a .state .now) accepted (worldOf (run .result) (run .last .1 .1 .1 .1 .1 .0) (run .last .1 .1 .1 .1 .0))
+    (run .ensures .1
+    ∙ same-run (a .deck .now) (a .requests .now) (a .state .now) accepted _ _ _ _ _ _
+    (words .words .ensures) (samples .samples .ensures) (part .rows .ensures) (table .load2 .ensures) state))
 
 pub run-spec : {M : Type 1} → statement M
 run-spec =

@@ -7,11 +7,19 @@ use Rattle.execute.proofs.access.Tie as tie
 
 returns : tie.Need-returns
 unfolding accessOf
-returns c = rw (eq-eqb _ _ (c .before .before .if1 .taken), ← c .before .before .before .before .gain .ensures, ← c .before .before .before .plan-with .ensures) (c .one-cycle .ensures)
+returns c =
+    let two = c .before .before in
+    let three = two .before in
+    let four = three .before in
+    rw (eq-eqb _ _ (two .if1 .taken), ← four .gain .ensures, ← three .plan-with .ensures) (c .one-cycle .ensures)
 
 returns-2 : tie.Need-returns-2
 unfolding accessOf
-returns-2 c = rw (ne-eqb _ _ (c .before .before .if1 .left), ← c .before .before .before .before .gain .ensures, ← c .before .before .before .plan-with .ensures) (c .two-cycles .ensures)
+returns-2 c =
+    let two = c .before .before in
+    let three = two .before in
+    let four = three .before in
+    rw (ne-eqb _ _ (two .if1 .left), ← four .gain .ensures, ← three .plan-with .ensures) (c .two-cycles .ensures)
 
 pub access-spec : {M : Type 1} → statement M
 access-spec = tie.close (tie.spec (search needs) (search needs) (search needs) returns (search needs) returns-2)

@@ -6,7 +6,10 @@ use Rattle.execute.proofs.conditioned.Tie as tie
 
 returns : tie.Need-returns
 unfolding conditionedOf
-returns c = rw (← c .before .before .before .condition-met .ensures, c .before .before .if1 .taken) (c .operation .ensures)
+returns c =
+    let two = c .before .before in
+    let three = two .before in
+    rw (← three .condition-met .ensures, two .if1 .taken) (c .operation .ensures)
 
 returns-2 : tie.Need-returns-2
 unfolding conditionedOf

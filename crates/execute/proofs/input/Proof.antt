@@ -7,11 +7,19 @@ use Rattle.execute.proofs.input.Tie as tie
 
 returns : tie.Need-returns
 unfolding inputOf
-returns c = rw (eq-eqb _ _ (c .before .before .before .before .if1 .taken), ← c .before .before .before .selected .ensures, ← c .before .before .plan-with .ensures) (c .one-cycle .ensures)
+returns c =
+    let two = c .before .before in
+    let three = two .before in
+    let four = three .before in
+    rw (eq-eqb _ _ (four .if1 .taken), ← three .selected .ensures, ← two .plan-with .ensures) (c .one-cycle .ensures)
 
 returns-2 : tie.Need-returns-2
 unfolding inputOf
-returns-2 c = rw (ne-eqb _ _ (c .before .before .before .before .if1 .left), ← c .before .before .before .plan-with2 .ensures, ← c .before .before .high .ensures) (c .two-cycles .ensures)
+returns-2 c =
+    let two = c .before .before in
+    let three = two .before in
+    let four = three .before in
+    rw (ne-eqb _ _ (four .if1 .left), ← three .plan-with2 .ensures, ← two .high .ensures) (c .two-cycles .ensures)
 
 pub input-spec : {M : Type 1} → statement M
 input-spec =

@@ -6,7 +6,11 @@ use Rattle.execute.proofs.loaded.Tie as tie
 
 returns : tie.Need-returns
 unfolding loadedOf
-returns c = rw (c .either4 .ensures, c .before .either3 .ensures, c .before .before .either2 .ensures, c .before .before .before .either .ensures, c .before .before .before .before .flags-in .ensures)
+returns c =
+    let two = c .before .before in
+    let three = two .before in
+    let four = three .before in
+    rw (c .either4 .ensures, c .before .either3 .ensures, two .either2 .ensures, three .either .ensures, four .flags-in .ensures)
 
 pub loaded-spec : {M : Type 1} → statement M
 loaded-spec = tie.close (tie.spec (search needs) (search needs) (search needs) (search needs) (search needs) returns)

@@ -7,11 +7,19 @@ use Rattle.execute.proofs.operation.Tie as tie
 
 returns : tie.Need-returns
 unfolding operationOf
-returns c = rw (eq-eqb _ _ (c .before .before .if1 .taken), ← c .before .before .before .plan .ensures) (c .one-cycle .ensures)
+returns c =
+    let two = c .before .before in
+    let three = two .before in
+    rw (eq-eqb _ _ (two .if1 .taken), ← three .plan .ensures) (c .one-cycle .ensures)
 
 returns-2 : tie.Need-returns-2
 unfolding operationOf
-returns-2 c = rw (ne-eqb _ _ (c .before .before .before .before .if1 .left), ← c .before .before .before .before .before .plan .ensures, ← c .before .before .before .high .ensures, ← c .before .before .high2 .ensures) (c .two-cycles .ensures)
+returns-2 c =
+    let two = c .before .before in
+    let three = two .before in
+    let four = three .before in
+    let five = four .before in
+    rw (ne-eqb _ _ (four .if1 .left), ← five .plan .ensures, ← three .high .ensures, ← two .high2 .ensures) (c .two-cycles .ensures)
 
 pub operation-spec : {M : Type 1} → statement M
 operation-spec =

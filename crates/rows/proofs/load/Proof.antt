@@ -20,7 +20,9 @@ loop-holds c = (zero-le, filled-none (c .before .before .args .s .now))
 
 array-set-from-table : tie.Need-array-set-from-table Inv-loop μ-loop
 array-set-from-table c =
-    omega (arith, ap length (c .before .before .loop .inv .1) ∙ filled-length (c .before .before .before .before .before .args .s .now) (c .before .before .loop .filled) (omega arith))
+    let two = c .before .before in
+    let five = two .before .before .before in
+    omega (arith, ap length (two .loop .inv .1) ∙ filled-length (five .args .s .now) (two .loop .filled) (omega arith))
 
 loop-again : tie.Need-loop-again Inv-loop μ-loop
 loop-again c =

@@ -7,7 +7,10 @@ use Rattle.rows.proofs.merged.Tie as tie
 
 returns : tie.Need-returns
 unfolding mergedOf
-returns c = rw (sym (c .before .before .before .before .before .before .before .matched .ensures) ∙ c .before .before .before .before .before .before .if1 .taken)
+returns c =
+    let six = c .before .before .before .before .before .before in
+    let seven = six .before in
+    rw (sym (seven .matched .ensures) ∙ six .if1 .taken)
 
 returns-2 : tie.Need-returns-2
 unfolding mergedOf

@@ -7,7 +7,9 @@ use Rattle.state.proofs.nibble.Tie as tie
 returns : tie.Need-returns
 unfolding nibbleOf
 returns c =
-    (rw (c .bit-of4 .ensures .0, c .before .bit-of3 .ensures .0, c .before .before .bit-of2 .ensures .0, c .before .before .before .bit-of .ensures .0), search needs)
+    let two = c .before .before in
+    let three = two .before in
+    (rw (c .bit-of4 .ensures .0, c .before .bit-of3 .ensures .0, two .bit-of2 .ensures .0, three .bit-of .ensures .0), search needs)
 
 pub nibble-spec : {M : Type 1} → statement M
 nibble-spec =

@@ -17,13 +17,17 @@ abbrev μ-loop : tie.MeasureT-loop
 μ-loop dst₀ at src n i₀ dst i = n - i
 
 -- the slice keeps its length
-long : (c : tie.At-loop Inv-loop μ-loop) → length (c .loop .dst) ≡ length (c .before .before .before .args .dst .now)
+long : (c : tie.At-loop Inv-loop μ-loop) → let start = c .before .before .before in
+    length (c .loop .dst) ≡ length (start .args .dst .now)
 long c =
-    let a = c .before .before .before .args in
-    ap length (c .loop .inv .1) ∙ fill-length (a .dst .now) (a .at) (a .src .now) (a .n) (c .loop .i) (c .before .before .before .pre) (c .loop .inv .0)
+    let start = c .before .before .before in
+    let a = start .args in
+    ap length (c .loop .inv .1) ∙ fill-length (a .dst .now) (a .at) (a .src .now) (a .n) (c .loop .i) (start .pre) (c .loop .inv .0)
 
 loop-holds : tie.Need-loop-holds Inv-loop μ-loop
-loop-holds c = (zero-le, paste-zero (c .before .before .args .dst .now) (c .before .before .args .at) (padded (c .before .before .args .src .now) (c .before .before .args .n)))
+loop-holds c =
+    let a = c .before .before .args in
+    (zero-le, paste-zero (a .dst .now) (a .at) (padded (a .src .now) (a .n)))
 
 slice-write-dst : tie.Need-slice-write-dst Inv-loop μ-loop
 slice-write-dst c = omega (arith, long (c .before .before))
@@ -31,8 +35,10 @@ slice-write-dst c = omega (arith, long (c .before .before))
 loop-again : tie.Need-loop-again Inv-loop μ-loop
 loop-again c =
     let at = c .before .before .loop in
-    let a = c .before .before .before .before .before .args in
-    (omega arith, rw (at .inv .1) (fill-more (a .dst .now) (a .at) (a .src .now) (a .n) (at .i) (c .byte-at .result) (c .before .before .before .before .before .pre) (c .before .loop-test .taken) (c .byte-at .ensures)))
+    let start = c .before .before .before .before .before in
+    let a = start .args in
+    let step = fill-more (a .dst .now) (a .at) (a .src .now) (a .n) (at .i) (c .byte-at .result) in
+    (omega arith, rw (at .inv .1) (step (start .pre) (c .before .loop-test .taken) (c .byte-at .ensures)))
 
 same-length : tie.Need-same-length Inv-loop μ-loop
 same-length c = long (c .before)

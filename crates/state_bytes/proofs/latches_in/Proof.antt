@@ -6,7 +6,11 @@ use Rattle.state_bytes.proofs.latches_in.Tie as tie
 
 returns : tie.Need-returns
 unfolding latchesOf
-returns c = rw (c .before .before .before .before .byte-at .ensures, c .before .before .before .byte-at2 .ensures, c .before .before .pair-at .ensures, c .before .byte-at3 .ensures, c .pair-at2 .ensures)
+returns c =
+    let two = c .before .before in
+    let three = two .before in
+    let four = three .before in
+    rw (four .byte-at .ensures, three .byte-at2 .ensures, two .pair-at .ensures, c .before .byte-at3 .ensures, c .pair-at2 .ensures)
 
 pub latches-in-spec : {M : Type 1} → statement M
 latches-in-spec =

@@ -7,7 +7,9 @@ use Rattle.state_bytes.proofs.load.Statement.{statement}
 use Rattle.state_bytes.proofs.load.Tie as tie
 
 returns : tie.Need-returns
-returns c = record { core = c .core-in .ensures; file = c .before .fill .ensures ∙ loaded _ (c .before .before .before .before .args .s .now) (omega arith) }
+returns c =
+    let four = c .before .before .before .before in
+    record { core = c .core-in .ensures; file = c .before .fill .ensures ∙ loaded _ (four .args .s .now) (omega arith) }
 
 pub load-spec : {M : Type 1} → statement M
 load-spec = tie.close (tie.spec (search needs) (search needs) returns)

@@ -8,8 +8,10 @@ use Rattle.state_bytes.proofs.store.Tie as tie
 returns : tie.Need-returns
 returns c =
     let first = c .before .before .before .before .before .before .before in
-    let start = c .before .before .before .before .before .before .before .before .before .before .before .before .before in
-    rw (c .before .before .fill2 .ensures, first .fill .ensures, first .before .before .before .tail .ensures) (stored (start .args .out .now) (start .args .file .now) (start .args .core) (omega arith) (omega arith))
+    let rest = first .before .before .before in
+    let a = rest .before .before .before .args in
+    rw (c .before .before .fill2 .ensures, first .fill .ensures, rest .tail .ensures)
+    (stored (a .out .now) (a .file .now) (a .core) (omega arith) (omega arith))
 
 returns-2 : tie.Need-returns-2
 returns-2 c = unstored (c .before .before .args .out .now) (c .before .before .args .file .now) (c .before .before .args .core) (c .if1 .left)

@@ -6,7 +6,10 @@ use Rattle.state_bytes.proofs.tail.Tie as tie
 
 returns : tie.Need-returns
 unfolding tailOf
-returns c = rw (c .before .before .nibble .ensures .0, c .before .before .before .before .before .before .before .before .before .before .before .flag-byte .ensures)
+returns c =
+    let two = c .before .before in
+    let eleven = two .before .before .before .before .before .before .before .before .before in
+    rw (two .nibble .ensures .0, eleven .flag-byte .ensures)
 
 pub tail-spec : {M : Type 1} → statement M
 tail-spec =
