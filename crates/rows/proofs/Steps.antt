@@ -19,7 +19,8 @@ abbrev pub rowAt : List Row → ℕ → Row
 rowAt rs k = getD rs k emptyRow
 
 -- a turn of `scan`: from what the row at k made of o, the rows that are left give the same
-pub scan-step : (rs : List Row) (k : ℕ) (o r : Outputs) (i : Inputs) → k < length rs → r ≡ mergedOf o (rowAt rs k) i → scanFrom r (drop (k + 1) rs) i ≡ scanFrom o (drop k rs) i
+pub scan-step : (rs : List Row) (k : ℕ) (o r : Outputs) (i : Inputs) → k < length rs → r ≡ mergedOf o (rowAt rs k) i
+    → scanFrom r (drop (k + 1) rs) i ≡ scanFrom o (drop k rs) i
 unfolding scanFrom
 scan-step rs k o r i l e = rw (add-one, drop-cons rs k emptyRow l, e)
 

@@ -1,5 +1,6 @@
 -- `rows::scan` meets its contract, by a walk of its MIR with its loop: the rows that are left give, from the outputs so far, what all rows give.
--- The fractured borrow of the rows is opened once, before the loop, and shut once, after it. A turn takes the row at k out of the rows, copies it, puts it back, and calls `merged`, of which it knows
+-- The fractured borrow of the rows is opened once, before the loop, and shut once, after it. A turn takes the row at k out of the rows, copies it,
+-- puts it back, and calls `merged`, of which it knows
 -- only that it meets its contract. Assumes nothing.
 use mathlib.Core.Path.{_≡_, refl, sym, _∙_, ap, subst}
 use Prim.Native.Nat.{ℕ, _+_, _-_, _*_, _<_, _≤_, _^_, zero-le}
@@ -25,9 +26,11 @@ use prog.Wp.{Heap, Out, Env, afterSeq, afterBlock, afterTurn, Calls, Loops, Wp, 
 use ghost.Atoms.{Atoms, sem}
 use contract.Monad.{Fun, fact}
 use contract.Running.{givenOf, tables, tablesOf}
-use types.Kit.{Given, Item, ‵, raw, _⊛_, some, later, runs, anyQ, atRet, Sq, ⋆, _$_, _∵_, !, qed, by, move, keep, drop, use0, use1, split, join, pick, rewrite, fsplit, fjoin, suffices, frame, await, done}
+use types.Kit.{Given, Item, ‵, raw, _⊛_, some, later, runs, anyQ, atRet, Sq, ⋆, _$_, _∵_, !, qed, by, move, keep, drop, use0, use1, split, join, pick}
+use types.Kit.{rewrite, fsplit, fjoin, suffices, frame, await, done}
 use types.Part.{whole, sub, look-in, agg}
-use types.Run.{look, look-raw, store, init, forget, stop, hop, fld, from, load, lit, and-then, no-more, of-opd, bin, assigns, assigns-last, land, first, blocks, stays, leaves-loop, returns, enter, alloc1, alloc0, params1, pass1, pass0, free1, free0, exec, Below, again, loops}
+use types.Run.{look, look-raw, store, init, forget, stop, hop, fld, from, load, lit, and-then, no-more, of-opd, bin, assigns, assigns-last, land}
+use types.Run.{first, blocks, stays, leaves-loop, returns, enter, alloc1, alloc0, params1, pass1, pass0, free1, free0, exec, Below, again, loops}
 use types.Share.{arr-parts}
 use sound.WpLaws.{fmOf, WpFn-mono}
 use denote.RattleType.{RattleType, owns}
@@ -100,7 +103,8 @@ record State (ys : List Row) (i : Inputs) : Type 0 where
   pub good : Is O.the-row o (oval o ∷ [])
   pub same : scanFrom o (dropL k ys) i ≡ scanOf ys i
 
-abbrev next : {ys : List Row} {i : Inputs} (s : State ys i) → s .k < length ys → (r : Outputs) → r ≡ mergedOf (s .o) (rowAt ys (s .k)) i → Is O.the-row r (oval r ∷ []) → State ys i
+abbrev next : {ys : List Row} {i : Inputs} (s : State ys i) → s .k < length ys → (r : Outputs) → r ≡ mergedOf (s .o) (rowAt ys (s .k)) i
+    → Is O.the-row r (oval r ∷ []) → State ys i
 next {ys} {i} s l r e g = record { k = s .k + 1; o = r; most = add-one-le l; good = g; same = scan-step ys (s .k) (s .o) r i l e ∙ s .same }
 
 none-good : Is O.the-row none (oval none ∷ [])
@@ -124,7 +128,8 @@ module _ {M : Type 1} (𝓤 : URA M) (H : Heap 𝓤) (A : Atoms 𝓤) (mem : Mem
     merged-of : (x : Outputs) → ent 𝓤 (ensured 𝓤 H A merged.ended (merged.clauses 𝓤 H A mem run) tt (o, (r, (i, tt))) tt x) (fact 𝓤 (x ≡ mergedOf o r i))
     merged-of x = exE 𝓤 _ (λ ws. snd∗ 𝓤 (sem 𝓤 H A (lasts merged.ended tt (o, (r, (i, tt))) ws)) (fact 𝓤 (x ≡ mergedOf o r i)))
 
-module _ {M : Type 1} (𝓤 : URA M) (H : Heap 𝓤) (A : Atoms 𝓤) (W : Given 𝓤 H A) (mem : Memory → SProp 𝓤) (run : Routine → Fun 𝓤) (κ : Lft) (q : Share) (b o : ℕ) (γ : GName) (ys : List Row) (i : Inputs) (room : Room R (length ys)) (gi : Is I.the-row i (ival i ∷ [])) where
+module _ {M : Type 1} (𝓤 : URA M) (H : Heap 𝓤) (A : Atoms 𝓤) (W : Given 𝓤 H A) (mem : Memory → SProp 𝓤) (run : Routine → Fun 𝓤) (κ : Lft) (q : Share)
+    (b o : ℕ) (γ : GName) (ys : List Row) (i : Inputs) (room : Room R (length ys)) (gi : Is I.the-row i (ival i ∷ [])) where
   abbrev x : RefT (List Row)
   x = record { ptr = (b, o); name = γ; now = ys }
 
@@ -140,8 +145,10 @@ module _ {M : Type 1} (𝓤 : URA M) (H : Heap 𝓤) (A : Atoms 𝓤) (W : Given
   exits : (r : Outputs) → Is O.the-row r (oval r ∷ []) → r ≡ scanOf ys i → ent 𝓤 (⋆ 𝓤 H A (‵ (flft κ q) ∷ [])) (Post (oval r))
   exits r g e =
       qed W (‵ (flft κ q) ∷ []) ∵
-      suffices ! _ (ends-at 𝓤 H A scan.ended stayed (scan.clauses 𝓤 H A mem run) W (((κ, tt), (q, tt), tt, (x, (i, tt)), at), tt) (oval r) r (tt, (tt, tt)) (tt, (tt, tt))) $ says ! e $
-      nothing ! $ move ! (1 ∷ 0 ∷ []) $ join ! $ frame ! $ owned ! O.the-row (Is O.the-row) (LL.makes O.the-type O′.the-plain 𝓤 H A) r (oval r ∷ []) g $ nothing ! $ nothing ! $ fjoin ! $ nothing ! $ fjoin ! $ done !
+      suffices ! _ (ends-at 𝓤 H A scan.ended stayed (scan.clauses 𝓤 H A mem run) W (((κ, tt), (q, tt), tt, (x, (i, tt)), at), tt) (oval r) r (tt, (tt, tt))
+      (tt, (tt, tt))) $ says ! e $
+      nothing ! $ move ! (1 ∷ 0 ∷ []) $ join ! $ frame ! $ owned ! O.the-row (Is O.the-row) (LL.makes O.the-type O′.the-plain 𝓤 H A) r (oval r ∷ []) g $
+      nothing ! $ nothing ! $ fjoin ! $ nothing ! $ fjoin ! $ done !
 
   abbrev start : State ys i
   start = record { k = 0; o = none; most = zero-le; good = none-good; same = refl }
@@ -165,9 +172,11 @@ module _ {M : Type 1} (𝓤 : URA M) (H : Heap 𝓤) (A : Atoms 𝓤) (W : Given
     -- [the rows; what shuts; _8; …; _7; …; _6; …; _5; …; _4; …; _3; …; _2; …; _1; …; _0; …]
     abbrev At : State ys i → List (Item 𝓤)
     At s = ‵ (row R q′ ys b o) ∷ ‵ (fobor κ q (arr-parts (shares R) n .part q′ ys b o))
-        ∷ ‵ (froom T′.mir l₈ 0) ∷ ‵ (fdies T′.mir l₈) ∷ ‵ (froom tyPtr l₇ 0) ∷ ‵ (fdies tyPtr l₇) ∷ ‵ (froom tyBool l₆ 0) ∷ ‵ (fdies tyBool l₆) ∷ ‵ (froom (tyInt w64) l₅ 0) ∷ ‵ (fdies (tyInt w64) l₅)
+        ∷ ‵ (froom T′.mir l₈ 0) ∷ ‵ (fdies T′.mir l₈) ∷ ‵ (froom tyPtr l₇ 0) ∷ ‵ (fdies tyPtr l₇) ∷ ‵ (froom tyBool l₆ 0) ∷ ‵ (fdies tyBool l₆) ∷ ‵
+        (froom (tyInt w64) l₅ 0) ∷ ‵ (fdies (tyInt w64) l₅)
         ∷ ‵ (fat fullShare (tyInt w64) l₄ 0 (vint w64 (s .k))) ∷ ‵ (fdies (tyInt w64) l₄) ∷ ‵ (fat fullShare O′.mir l₃ 0 (oval (s .o))) ∷ ‵ (fdies O′.mir l₃)
-        ∷ ‵ (fat fullShare I′.mir l₂ 0 (ival i)) ∷ ‵ (fdies I′.mir l₂) ∷ ‵ (fat fullShare slice l₁ 0 (sliceVal (b, o) n)) ∷ ‵ (fdies slice l₁) ∷ ‵ (froom O′.mir l₀ 0) ∷ ‵ (fdies O′.mir l₀) ∷ []
+        ∷ ‵ (fat fullShare I′.mir l₂ 0 (ival i)) ∷ ‵ (fdies I′.mir l₂) ∷ ‵ (fat fullShare slice l₁ 0 (sliceVal (b, o) n)) ∷ ‵ (fdies slice l₁) ∷ ‵
+        (froom O′.mir l₀ 0) ∷ ‵ (fdies O′.mir l₀) ∷ []
 
     -- a turn's postcondition: it ends nearer to n, or the loop is left and the rest of the body runs
     abbrev Turned : State ys i → Out → SProp 𝓤
@@ -177,26 +186,35 @@ module _ {M : Type 1} (𝓤 : URA M) (H : Heap 𝓤) (A : Atoms 𝓤) (W : Given
     more : (s : State ys i) → ltb (s .k) n ≡ true → Sq W (At s) (runs C Λ En body.turn-1 (anyQ (Turned s)))
     unfolding afterTurn
     more s test =
-        assigns ! (of-opd ! (load ! (from ! (fld ! refl (stop !))) (look-in ! 16 (sub ! 1 refl (whole !))))) (from ! (stop !)) (init ! 8 refl (tt, record { fits = room .0 })) $
+        assigns ! (of-opd ! (load ! (from ! (fld ! refl (stop !))) (look-in ! 16 (sub ! 1 refl (whole !))))) (from ! (stop !))
+        (init ! 8 refl (tt, record { fits = room .0 })) $
         assigns ! (bin ! (load ! (from ! (stop !)) (look ! 10 refl)) (load ! (from ! (stop !)) (look ! 8 refl)) tt) (from ! (stop !)) (init ! 6 refl (tt, tt)) $
         rewrite ! 6 (λ (t : Bool). ‵ (fat fullShare tyBool l₆ 0 (vbool t))) test refl $ stays ! (load ! (from ! (stop !)) (look ! 6 refl)) $
-        assigns ! (bin ! (load ! (from ! (stop !)) (look ! 10 refl)) (lit ! tt) (record { fits = place-fits })) (from ! (stop !)) (store ! 8 refl (tt, record { fits = place-fits })) $
-        assigns ! (bin ! (load ! (from ! (fld ! refl (stop !))) (look-in ! 16 (sub ! 0 refl (whole !)))) (load ! (from ! (stop !)) (look ! 8 refl)) tt) (from ! (stop !)) (init ! 4 refl (tt, tt)) $
+        assigns ! (bin ! (load ! (from ! (stop !)) (look ! 10 refl)) (lit ! tt) (record { fits = place-fits })) (from ! (stop !))
+        (store ! 8 refl (tt, record { fits = place-fits })) $
+        assigns ! (bin ! (load ! (from ! (fld ! refl (stop !))) (look-in ! 16 (sub ! 0 refl (whole !)))) (load ! (from ! (stop !)) (look ! 8 refl)) tt)
+        (from ! (stop !)) (init ! 4 refl (tt, tt)) $
         rewrite ! 4 (λ (p : ℕ). ‵ (fat fullShare tyPtr l₇ 0 (vptr b p))) (sym (place-is 16 o (s .k))) refl $
         -- the row at k is taken out, copied, and put back
         elem-out ! R (Is R) (shows 𝓤 H A R) (LL.vals T.the-type T′.the-laws) (LL.tells T.the-type T′.the-laws) q′ ys (s .k) emptyRow b o below (λ g.
-        assigns ! (of-opd ! (load ! (from ! (hop ! (look ! 6 refl) (stop !))) (look-raw ! 0 refl))) (from ! (stop !)) (init ! 4 refl (LL.lawful T.the-type T′.the-laws 𝓤 H A W .typed (rowAt ys (s .k)) (val (rowAt ys (s .k)) ∷ []) g .0)) $
+        assigns ! (of-opd ! (load ! (from ! (hop ! (look ! 6 refl) (stop !))) (look-raw ! 0 refl))) (from ! (stop !))
+        (init ! 4 refl (LL.lawful T.the-type T′.the-laws 𝓤 H A W .typed (rowAt ys (s .k)) (val (rowAt ys (s .k)) ∷ []) g .0)) $
         elem-back ! R q′ ys (s .k) emptyRow (val (rowAt ys (s .k)) ∷ []) b o below $
         -- the call
-        use0 W (raw (Merged 𝓤 H A mem run .pre (to-merged 𝓤 H A mem run (s .o) (rowAt ys (s .k)) i))) (goes-merged 𝓤 H A mem run (s .o) (rowAt ys (s .k)) i W (s .good) g gi) $
+        use0 W (raw (Merged 𝓤 H A mem run .pre (to-merged 𝓤 H A mem run (s .o) (rowAt ys (s .k)) i)))
+        (goes-merged 𝓤 H A mem run (s .o) (rowAt ys (s .k)) i W (s .good) g gi) $
         calls-at ! (fmOf 𝓤 H (W .laws) 𝓣) (Merged 𝓤 H A mem run) known (to-merged 𝓤 H A mem run (s .o) (rowAt ys (s .k)) i)
-        (and-then ! (load ! (from ! (stop !)) (look ! 13 refl)) (and-then ! (load ! (from ! (stop !)) (look ! 3 refl)) (and-then ! (load ! (from ! (stop !)) (look ! 15 refl)) (no-more !)))) (λ v.
-        use1 W (later (some (λ (r : Outputs). (‵ ftrue ⊛ ‵ (O.the-row .own r (v ∷ []))) ⊛ raw (ensured 𝓤 H A merged.ended (merged.clauses 𝓤 H A mem run) tt (s .o, (rowAt ys (s .k), (i, tt))) tt r)))) (id⊢ 𝓤 _) $ await ! tt $ pick ! (λ r.
-        split ! $ move ! (1 ∷ []) $ use1 W (raw (fact 𝓤 (r ≡ mergedOf (s .o) (rowAt ys (s .k)) i))) (merged-of 𝓤 H A mem run (s .o) (rowAt ys (s .k)) i r) $ heard ! (r ≡ mergedOf (s .o) (rowAt ys (s .k)) i) (λ e. split ! $ drop ! $
+        (and-then ! (load ! (from ! (stop !)) (look ! 13 refl))
+        (and-then ! (load ! (from ! (stop !)) (look ! 3 refl)) (and-then ! (load ! (from ! (stop !)) (look ! 15 refl)) (no-more !)))) (λ v.
+        use1 W (later (some (λ (r : Outputs). (‵ ftrue ⊛ ‵ (O.the-row .own r (v ∷ []))) ⊛ raw
+        (ensured 𝓤 H A merged.ended (merged.clauses 𝓤 H A mem run) tt (s .o, (rowAt ys (s .k), (i, tt))) tt r)))) (id⊢ 𝓤 _) $ await ! tt $ pick ! (λ r.
+        split ! $ move ! (1 ∷ []) $ use1 W (raw (fact 𝓤 (r ≡ mergedOf (s .o) (rowAt ys (s .k)) i))) (merged-of 𝓤 H A mem run (s .o) (rowAt ys (s .k)) i r) $
+        heard ! (r ≡ mergedOf (s .o) (rowAt ys (s .k)) i) (λ e. split ! $ drop ! $
         facts ! O.the-row (Is O.the-row) (shows 𝓤 H A O.the-row) r (v ∷ []) (λ is.
         land ! (from ! (stop !)) (store ! 12 refl (LL.lawful O.the-type O′.the-laws 𝓤 H A W .typed r (v ∷ []) is .0)) $
         rewrite ! 12 (λ (u : Val). ‵ (fat fullShare O′.mir l₃ 0 u)) (ap only (LL.tells O.the-type O′.the-laws r (v ∷ []) is)) refl $
-        assigns-last ! (bin ! (load ! (from ! (stop !)) (look ! 10 refl)) (lit ! tt) (record { fits = next-fits })) (from ! (stop !)) (store ! 10 refl (tt, record { fits = next-fits })) $
+        assigns-last ! (bin ! (load ! (from ! (stop !)) (look ! 10 refl)) (lit ! tt) (record { fits = next-fits })) (from ! (stop !))
+        (store ! 10 refl (tt, record { fits = next-fits })) $
         forget ! 2 refl $ forget ! 4 refl $ forget ! 6 refl $ forget ! 8 refl $
         again ! Nearer At s (next s below r e (subst (Is O.the-row r) (LL.tells O.the-type O′.the-laws r (v ∷ []) is) is)) (add-one-dec n (s .k) below))))))
       where
@@ -213,14 +231,19 @@ module _ {M : Type 1} (𝓤 : URA M) (H : Heap 𝓤) (A : Atoms 𝓤) (W : Given
     ends : (s : State ys i) → ltb (s .k) n ≡ false → Sq W (At s) (runs C Λ En body.turn-1 (anyQ (Turned s)))
     unfolding afterTurn
     ends s test =
-        assigns ! (of-opd ! (load ! (from ! (fld ! refl (stop !))) (look-in ! 16 (sub ! 1 refl (whole !))))) (from ! (stop !)) (init ! 8 refl (tt, record { fits = room .0 })) $
+        assigns ! (of-opd ! (load ! (from ! (fld ! refl (stop !))) (look-in ! 16 (sub ! 1 refl (whole !))))) (from ! (stop !))
+        (init ! 8 refl (tt, record { fits = room .0 })) $
         assigns ! (bin ! (load ! (from ! (stop !)) (look ! 10 refl)) (load ! (from ! (stop !)) (look ! 8 refl)) tt) (from ! (stop !)) (init ! 6 refl (tt, tt)) $
-        rewrite ! 6 (λ (t : Bool). ‵ (fat fullShare tyBool l₆ 0 (vbool t))) test refl $ leaves-loop ! (load ! (from ! (stop !)) (look ! 6 refl)) $ exec ! C Λ En body.t-4 (atRet En Post) $
-        assigns ! (of-opd ! (load ! (from ! (stop !)) (look ! 12 refl))) (from ! (stop !)) (init ! 18 refl (LL.lawful O.the-type O′.the-laws 𝓤 H A W .typed (s .o) (oval (s .o) ∷ []) (s .good) .0)) $
+        rewrite ! 6 (λ (t : Bool). ‵ (fat fullShare tyBool l₆ 0 (vbool t))) test refl $ leaves-loop ! (load ! (from ! (stop !)) (look ! 6 refl)) $
+        exec ! C Λ En body.t-4 (atRet En Post) $
+        assigns ! (of-opd ! (load ! (from ! (stop !)) (look ! 12 refl))) (from ! (stop !))
+        (init ! 18 refl (LL.lawful O.the-type O′.the-laws 𝓤 H A W .typed (s .o) (oval (s .o) ∷ []) (s .good) .0)) $
         shuts-slice ! tt R q′ ys b o $
         -- [the token; _8; …; _0; …]
-        returns ! (look ! 17 refl) $ forget ! 5 refl $ forget ! 7 refl $ forget ! 9 refl $ forget ! 11 refl $ forget ! 13 refl $ forget ! 15 refl $ forget ! 17 refl $
-        move ! (17 ∷ 18 ∷ []) $ free1 ! $ move ! (15 ∷ 16 ∷ []) $ free1 ! $ move ! (13 ∷ 14 ∷ []) $ free1 ! $ move ! (11 ∷ 12 ∷ []) $ free1 ! $ move ! (9 ∷ 10 ∷ []) $ free1 ! $
+        returns ! (look ! 17 refl) $ forget ! 5 refl $ forget ! 7 refl $ forget ! 9 refl $ forget ! 11 refl $ forget ! 13 refl $ forget ! 15 refl $
+        forget ! 17 refl $
+        move ! (17 ∷ 18 ∷ []) $ free1 ! $ move ! (15 ∷ 16 ∷ []) $ free1 ! $ move ! (13 ∷ 14 ∷ []) $ free1 ! $ move ! (11 ∷ 12 ∷ []) $ free1 ! $
+        move ! (9 ∷ 10 ∷ []) $ free1 ! $
         move ! (7 ∷ 8 ∷ []) $ free1 ! $ move ! (5 ∷ 6 ∷ []) $ free1 ! $ move ! (3 ∷ 4 ∷ []) $ free1 ! $ move ! (1 ∷ 2 ∷ []) $ free1 ! $ free0 ! $
         by ! (exits (s .o) (s .good) (sym (scan-end ys (s .k) (s .o) i (ltb-false (s .k) n test)) ∙ s .same))
 
@@ -235,27 +258,39 @@ module _ {M : Type 1} (𝓤 : URA M) (H : Heap 𝓤) (A : Atoms 𝓤) (W : Given
     looped : Sq W (At start) (runs C Λ En body.t-3 (atRet En Post))
     looped = first ! $ blocks ! $ loops ! 𝓣 Nearer Nearer-wf At turns start
 
-  walk : (𝓣 : Tables 𝓤 H) → Triple 𝓤 (𝓣 .C #rows·merged) (Merged 𝓤 H A mem run) → ent 𝓤 (onEntry 𝓤 H A scan.signature (κ, tt) (q, tt) (x, (i, tt)) at) (WpFn 𝓤 H (𝓣 .C) (𝓣 .Λ) code.function (sliceVal (b, o) n ∷ ival i ∷ []) Post)
+  walk : (𝓣 : Tables 𝓤 H) → Triple 𝓤 (𝓣 .C #rows·merged) (Merged 𝓤 H A mem run)
+      → ent 𝓤 (onEntry 𝓤 H A scan.signature (κ, tt) (q, tt) (x, (i, tt)) at) (WpFn 𝓤 H (𝓣 .C) (𝓣 .Λ) code.function (sliceVal (b, o) n ∷ ival i ∷ []) Post)
   walk 𝓣 known =
-      qed W ((‵ (flft κ q) ⊛ ‵ ftrue) ∷ ‵ (owns (ShrSlice (named 0) κ R ∷ I.the-row ∷ []) (x, (i, tt)) at) ∷ []) ∵ enter ! (𝓣 .C) (𝓣 .Λ) code.function (sliceVal (b, o) n ∷ ival i ∷ []) _ $
-      alloc1 ! (λ l₀. alloc1 ! (λ l₁. alloc1 ! (λ l₂. alloc1 ! (λ l₃. alloc1 ! (λ l₄. alloc1 ! (λ l₅. alloc1 ! (λ l₆. alloc1 ! (λ l₇. alloc1 ! (λ l₈. alloc0 ! $ params1 ! $
-      pass1 ! (init ! 14 refl (tt, (tt, (record { fits = room .0 }, tt)))) $ pass1 ! (init ! 12 refl (LL.lawful I.the-type I′.the-laws 𝓤 H A W .typed i (ival i ∷ []) gi .0)) $ pass0 ! $
-      assigns ! (agg ! (and-then ! (lit ! tt) (and-then ! (lit ! tt) (and-then ! (lit ! tt) (no-more !))))) (from ! (stop !)) (init ! 10 refl (LL.lawful O.the-type O′.the-laws 𝓤 H A W .typed none (oval none ∷ []) none-good .0)) $
+      qed W ((‵ (flft κ q) ⊛ ‵ ftrue) ∷ ‵ (owns (ShrSlice (named 0) κ R ∷ I.the-row ∷ []) (x, (i, tt)) at) ∷ []) ∵ enter ! (𝓣 .C) (𝓣 .Λ) code.function
+      (sliceVal (b, o) n ∷ ival i ∷ []) _ $
+      alloc1 ! (λ l₀. alloc1 ! (λ l₁. alloc1 ! (λ l₂. alloc1 !
+      (λ l₃. alloc1 ! (λ l₄. alloc1 ! (λ l₅. alloc1 ! (λ l₆. alloc1 ! (λ l₇. alloc1 ! (λ l₈. alloc0 ! $ params1 ! $
+      pass1 ! (init ! 14 refl (tt, (tt, (record { fits = room .0 }, tt)))) $
+      pass1 ! (init ! 12 refl (LL.lawful I.the-type I′.the-laws 𝓤 H A W .typed i (ival i ∷ []) gi .0)) $ pass0 ! $
+      assigns ! (agg ! (and-then ! (lit ! tt) (and-then ! (lit ! tt) (and-then ! (lit ! tt) (no-more !))))) (from ! (stop !))
+      (init ! 10 refl (LL.lawful O.the-type O′.the-laws 𝓤 H A W .typed none (oval none ∷ []) none-good .0)) $
       assigns ! (of-opd ! (lit ! tt)) (from ! (stop !)) (init ! 8 refl (tt, record { fits = lit< tt })) $
       -- of what the slice owns the fractured borrow is kept, and opened
       move ! (19 ∷ []) $ fsplit ! $ fsplit ! $ drop ! $ fsplit ! $ drop ! $ move ! (20 ∷ []) $ split ! $ move ! (2 ∷ 0 ∷ []) $
-      looks-slice ! tt R (Is R) (shows 𝓤 H A R) (LL.vals T.the-type T′.the-laws) (LL.tells T.the-type T′.the-laws) (LL.copy T.the-type T′.the-copy 𝓤 H A W) ys b o (λ q′.
+      looks-slice ! tt R (Is R) (shows 𝓤 H A R) (LL.vals T.the-type T′.the-laws) (LL.tells T.the-type T′.the-laws)
+      (LL.copy T.the-type T′.the-copy 𝓤 H A W) ys b o (λ q′.
       keep ! (0 ∷ 1 ∷ 5 ∷ 6 ∷ 7 ∷ 8 ∷ 9 ∷ 10 ∷ 11 ∷ 12 ∷ 13 ∷ 14 ∷ 15 ∷ 16 ∷ 17 ∷ 18 ∷ 19 ∷ 20 ∷ 21 ∷ 22 ∷ []) $
       looped 𝓣 known q′ l₀ l₁ l₂ l₃ l₄ l₅ l₆ l₇ l₈))))))))))
 
-module _ {M : Type 1} (𝓤 : URA M) (H : Heap 𝓤) (A : Atoms 𝓤) (W : Given 𝓤 H A) (mem : Memory → SProp 𝓤) (run : Routine → Fun 𝓤) (𝓣 : Tables 𝓤 H) (known : Triple 𝓤 (𝓣 .C #rows·merged) (Merged 𝓤 H A mem run)) where
+module _ {M : Type 1} (𝓤 : URA M) (H : Heap 𝓤) (A : Atoms 𝓤) (W : Given 𝓤 H A) (mem : Memory → SProp 𝓤) (run : Routine → Fun 𝓤) (𝓣 : Tables 𝓤 H)
+    (known : Triple 𝓤 (𝓣 .C #rows·merged) (Merged 𝓤 H A mem run)) where
   scan-walks : Walks 𝓤 H A scan.ended stayed (WpFn 𝓤 H (𝓣 .C) (𝓣 .Λ) code.function) (scan.clauses 𝓤 H A mem run)
-  scan-walks = walked 𝓤 H A scan.ended stayed (scan.clauses 𝓤 H A mem run) (WpFn 𝓤 H (𝓣 .C) (𝓣 .Λ) code.function) (λ κs. (slice-vals, (LL.vals I.the-type I′.the-laws, tt))) (λ κs. (shr-slice-tells (named 0) (κs .0) R, (LL.tells I.the-type I′.the-laws, tt)))
+  scan-walks = walked 𝓤 H A scan.ended stayed (scan.clauses 𝓤 H A mem run) (WpFn 𝓤 H (𝓣 .C) (𝓣 .Λ) code.function)
+      (λ κs. (slice-vals, (LL.vals I.the-type I′.the-laws, tt))) (λ κs. (shr-slice-tells (named 0) (κs .0) R, (LL.tells I.the-type I′.the-laws, tt)))
       (λ κs qs bounds a g are. via 𝓤 _ (fst∗ 𝓤 _ (emp 𝓤))
       (walk 𝓤 H A W mem run (κs .0) (qs .0) (a .0 .ptr .0) (a .0 .ptr .1) (a .0 .name) (a .0 .now) (a .1 .0) (are .0 .0 .1) (are .1 .0) 𝓣 known))
 
   scan-meets : Meets 𝓤 H A scan.signature (WpFn 𝓤 H (𝓣 .C) (𝓣 .Λ) code.function) (scan.spec 𝓤 H A mem run)
-  scan-meets = walk-meets 𝓤 H A scan.ended stayed W (goes-dropped 𝓤 H A W 1 (shrSliceOf (0 ∷ []) tt (plain (λ _. R))) yes (λ κs x f. refl), (goes-dropped 𝓤 H A W 1 (plain (λ _. I.the-row)) yes (λ κs x f. refl), tt)) (scan.clauses 𝓤 H A mem run) (WpFn 𝓤 H (𝓣 .C) (𝓣 .Λ) code.function) (WpFn-mono 𝓤 H (W .laws) 𝓣 code.function) scan-walks
+  scan-meets = walk-meets 𝓤 H A scan.ended stayed W (
+    goes-dropped 𝓤 H A W 1 (shrSliceOf (0 ∷ []) tt (plain (λ _. R))) yes (λ κs x f. refl),
+    (goes-dropped 𝓤 H A W 1 (plain (λ _. I.the-row)) yes (λ κs x f. refl), tt),
+  ) (scan.clauses 𝓤 H A mem run) (WpFn 𝓤 H (𝓣 .C) (𝓣 .Λ) code.function)
+      (WpFn-mono 𝓤 H (W .laws) 𝓣 code.function) scan-walks
 
 pub scan-spec : {M : Type 1} → stated.statement M
 unfolding code.routine tablesOf
