@@ -14,10 +14,11 @@ use Rattle.choose.specs.Below.{allBelow}
 use Rattle.choose.proofs.Table.{all-same}
 use Rattle.numbers.specs.Numbers.{wordAt, Bytes}
 use Rattle.numbers.proofs.Laws.{byte-below, quad-bytes}
-use Rattle.rows.specs.Section.{emptyRow, rowFrom, rowsOf, wholeRows, filledTable, tableOf}
+use Rattle.rows.specs.Section.{rowFrom, rowsOf}
+use Rattle.rows.specs.Table.{emptyRow, wholeRows, filledTable, tableOf}
 use Rattle.rows.specs.Range.{rowInRange, rowsInRange}
 use Rattle.rows.proofs.Laws.{range-append, rows-length}
-use Rattle.deck.specs.Ranges.{everyQuad}
+use Rattle.deck.specs.Quads.{everyQuad}
 
 -- the last of n + 1 elements, or one before it
 last : (n i : ℕ) → i < suc n → (i ≡ n) ⊎ (i < n)

@@ -1,3 +1,4 @@
 pub mod Sections
 pub mod Elements
 pub mod Ranges
+pub mod Quads

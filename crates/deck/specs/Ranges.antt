@@ -2,21 +2,17 @@
 use mathlib.Core.Path.{_≡_}
 use mathlib.Core.Bool.{Bool, true, _&&_}
 use mathlib.Core.List.{List}
-use Prim.Native.Nat.{ℕ, _+_, _*_, _/_, _≤_}
+use Prim.Native.Nat.{ℕ, _/_, _≤_}
 use lib.Dec.{eqb, leb, ltb}
 use lib.ListN.{length}
 use Rattle.choose.specs.Ranged.{pick}
-use Rattle.numbers.specs.Numbers.{byteAt, wordAt}
+use Rattle.numbers.specs.Numbers.{wordAt}
 use Rattle.choose.specs.Below.{allBelow}
 use Rattle.rows.specs.Section.{rowsOf}
 use Rattle.rows.specs.Range.{rowsInRange}
 use Rattle.state_bytes.specs.Range.{stateInRange}
 use Rattle.deck.specs.Sections.{wholeOf, wordsPart, rowsPart, statePart, samplesPart}
 use Rattle.deck.specs.Elements.{linesAt, interruptsAt}
-
--- of each whole element of four bytes, the last two have these limits
-unfoldable pub everyQuad : List ℕ → ℕ → ℕ → Bool
-everyQuad s third fourth = allBelow (length s / 4) (λ i. leb (byteAt s (i * 4 + 2)) third && leb (byteAt s (i * 4 + 3)) fourth)
 
 -- 2: "over 2,048 words, or a word of 2^22 or more"
 unfoldable pub wordsInRange : List ℕ → Bool

@@ -6,7 +6,8 @@ ghost use Prim.Native.Nat.{_+_, _≤_};
 ghost use lib.ListN.{length};
 ghost use Rattle.deck.specs.Sections.{sectionEnd, layoutOf, wholeOf, sectionOf, wordsPart, rowsPart, statePart, samplesPart};
 ghost use Rattle.deck.specs.Elements.{sampleAt};
-ghost use Rattle.deck.specs.Ranges.{everyQuad, wordsInRange, rowsPartInRange, samplesInRange, deckRefusalOf};
+ghost use Rattle.deck.specs.Ranges.{wordsInRange, rowsPartInRange, samplesInRange, deckRefusalOf};
+ghost use Rattle.deck.specs.Quads.{everyQuad};
 
 // Where the sections after the words start, each at its count, and where the last one ends.
 pub struct Layout {

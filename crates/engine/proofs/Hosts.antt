@@ -9,7 +9,8 @@ use borrow.Author.Tests.{eq-eqb, ne-eqb}
 use Rattle.deck.specs.Sections.{layoutOf, wordsPart, rowsPart, statePart, samplesPart}
 use Rattle.deck.specs.Ranges.{deckRefusalOf}
 use Rattle.deck.proofs.Laws.{accepted, fits, part-length, rows-in-range, samples-few}
-use Rattle.rows.specs.Section.{rowsOf, tableOf}
+use Rattle.rows.specs.Section.{rowsOf}
+use Rattle.rows.specs.Table.{tableOf}
 use Rattle.rows.specs.declared.Row.{Row}
 use Rattle.rows.proofs.Laws.{table-rows}
 use Rattle.state.specs.declared.Core.{Core}

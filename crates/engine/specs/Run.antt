@@ -9,7 +9,6 @@ use Rattle.deck.specs.Elements.{sampleAt}
 use Rattle.rows.specs.declared.Row.{Row}
 use Rattle.state.specs.declared.Core.{Core}
 use Rattle.state.specs.declared.Sample.{Sample}
-use Rattle.engine.specs.declared.RunEnd.{RunEnd}
 use Rattle.state.specs.File.{Leaves}
 use Rattle.attempt.specs.declared.Outcome.{Outcome}
 
@@ -51,10 +50,3 @@ runFrom ws rs (s ∷ ss) w =
 unfoldable pub samplesFrom : List ℕ → ℕ → ℕ → List Sample
 samplesFrom s i zero = []
 samplesFrom s i (suc n) = sampleAt s i ∷ samplesFrom s (suc i) n
-
-abbrev pub runEnd : Core → ℕ → ℕ → ℕ → RunEnd
-runEnd k answer attempts microcycles = record { core = k; answer = answer; attempts = attempts; microcycles = microcycles }
-
--- what a run leaves, with the registers and the places
-abbrev pub worldOf : RunEnd → List ℕ → List ℕ → World
-worldOf r xs b = world xs (r .core) (r .answer) (r .attempts) (r .microcycles) b

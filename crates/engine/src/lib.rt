@@ -4,7 +4,8 @@ use state::Core;
 ghost use mathlib.Core.Path.{_≡_};
 ghost use Prim.Native.Nat.{_*_, _+_, _≤_};
 ghost use lib.ListN.{length, take};
-ghost use Rattle.engine.specs.Run.{world, put4Of, runFrom, samplesFrom, runEnd, worldOf};
+ghost use Rattle.engine.specs.Run.{world, put4Of, runFrom, samplesFrom};
+ghost use Rattle.engine.specs.RunEnds.{runEnd, worldOf};
 ghost use Rattle.engine.specs.Host.{hosted, hostOf};
 
 fn put4(b: &mut [u8], at: usize, x: u32)

@@ -16,7 +16,8 @@ use Rattle.rows.specs.declared.Row.{Row}
 use Rattle.rows.specs.declared.Inputs.{Inputs}
 use Rattle.rows.specs.declared.Outputs.{Outputs}
 use Rattle.rows.specs.Scan.{matchedOf, ored, mergedOf, none, scanFrom, scanOf}
-use Rattle.rows.specs.Section.{rowsOf, wholeRows, filledTable, tableOf}
+use Rattle.rows.specs.Section.{rowsOf}
+use Rattle.rows.specs.Table.{wholeRows, filledTable, tableOf}
 use Rattle.rows.specs.Range.{masksFit, outputsFit, valuesInMasks, rowInRange, rowsInRange, OutputsInRange}
 
 -- ---- no rows

@@ -11,7 +11,8 @@ use Rattle.rows.specs.declared.Row.{Row}
 use Rattle.rows.specs.declared.Inputs.{Inputs}
 use Rattle.rows.specs.declared.Outputs.{Outputs}
 use Rattle.rows.specs.Scan.{mergedOf, scanFrom}
-use Rattle.rows.specs.Section.{emptyRow, atMost128, rowFrom, rowsOf, filledTable}
+use Rattle.rows.specs.Section.{rowFrom, rowsOf}
+use Rattle.rows.specs.Table.{emptyRow, atMost128, filledTable}
 use Rattle.rows.proofs.Laws.{rows-length}
 
 -- the row at k, as `scan` reads it

@@ -1,3 +1,4 @@
 pub mod Scan
 pub mod Section
 pub mod Range
+pub mod Table

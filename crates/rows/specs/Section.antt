@@ -1,7 +1,6 @@
 -- The rows section of a deck: "Rows: 16 bytes", "low first".
 use mathlib.Core.List.{List, [], _∷_, _++_}
-use Prim.Native.Nat.{ℕ, zero, suc, _+_, _-_, _*_, _/_, min}
-use lib.ListN.{length, replicate}
+use Prim.Native.Nat.{ℕ, zero, suc, _+_, _-_, _*_}
 use Rattle.numbers.specs.Numbers.{byteAt, pairAt}
 use Rattle.rows.specs.declared.Row.{Row}
 
@@ -28,37 +27,3 @@ rowFrom s a = record {
 unfoldable pub rowsOf : List ℕ → ℕ → List Row
 rowsOf s zero = []
 rowsOf s (suc n) = rowsOf s n ++ (rowFrom s (n * 16) ∷ [])
-
--- the row of sixteen zero bytes: it matches always and puts nothing out
-abbrev pub emptyRow : Row
-emptyRow = record {
-  «lc_mask» = 0;
-  «lc_value» = 0;
-  «rni_mask» = 0;
-  «rni_value» = 0;
-  «tr_mask» = 0;
-  «tr_value» = 0;
-  «tsr_mask» = 0;
-  «tsr_value» = 0;
-  «interrupt_mask» = 0;
-  «interrupt_value» = 0;
-  address = 0;
-  lines = 0;
-  «new_tsr» = 0;
-}
-
--- "0 to 128 translation rows": a table has room for no more
-abbrev pub atMost128 : ℕ → ℕ
-atMost128 n = min n 128
-
--- how many whole rows of the section go into a table
-abbrev pub wholeRows : List ℕ → ℕ
-wholeRows s = atMost128 (length s / 16)
-
--- the first n rows, and empty rows up to 128
-unfoldable pub filledTable : List ℕ → ℕ → List Row
-filledTable s n = rowsOf s n ++ replicate (128 - n) emptyRow
-
--- the table of the section's whole rows
-abbrev pub tableOf : List ℕ → List Row
-tableOf s = filledTable s (wholeRows s)

@@ -3,7 +3,8 @@ ghost use mathlib.Core.Path.{_≡_};
 ghost use Prim.Native.Nat.{_+_, _≤_};
 ghost use lib.ListN.{length, take};
 ghost use Rattle.rows.specs.Scan.{matchedOf, mergedOf, none, scanOf, lta, lra, ltsr};
-ghost use Rattle.rows.specs.Section.{rowFrom, atMost128, tableOf};
+ghost use Rattle.rows.specs.Section.{rowFrom};
+ghost use Rattle.rows.specs.Table.{atMost128, tableOf};
 ghost use Rattle.rows.specs.Range.{masksFit, outputsFit, valuesInMasks, rowInRange};
 
 // A row as its sixteen bytes give it, in their order.

@@ -8,7 +8,8 @@ use lib.ListN.{length, getD, take, drop, set, replicate, length-append, length-d
 use lib.Seq.{paste, paste-suc, length-paste, take-at}
 use borrow.Author.Tests.{eq-eqb, ne-eqb}
 use Rattle.state.specs.declared.Core.{Core}
-use Rattle.state_bytes.specs.Bytes.{padded, filledOf, fileOf, tailOf, storedOf}
+use Rattle.state_bytes.specs.Bytes.{padded, fileOf, tailOf, storedOf}
+use Rattle.state_bytes.specs.Filled.{filledOf}
 
 zeros-at : (n i : ℕ) → _≡_ {A = ℕ} (getD (replicate n 0) i 0) 0
 zeros-at zero i = refl

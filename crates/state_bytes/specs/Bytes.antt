@@ -6,7 +6,6 @@ use mathlib.Core.List.{List, [], _∷_, _++_}
 use Prim.Native.Nat.{ℕ, _/_, _%_}
 use lib.Dec.{eqb}
 use lib.ListN.{length, take, replicate}
-use lib.Seq.{paste}
 use Rattle.choose.specs.Ranged.{pick}
 use Rattle.numbers.specs.Numbers.{byteAt, pairAt}
 use Rattle.state.specs.FlagByte.{nibbleOf, flagByteOf, flagsOf}
@@ -50,10 +49,6 @@ coreOf s =
 -- the bytes s, and n zeros for what is missing
 abbrev pub padded : List ℕ → ℕ → List ℕ
 padded s n = s ++ replicate n 0
-
--- n bytes of dst, from byte at on, replaced by the first n of src
-unfoldable pub filledOf : List ℕ → ℕ → List ℕ → ℕ → List ℕ
-filledOf dst at src n = paste dst at (padded src n) n
 
 -- "G0-GB, R2-RF": the first 26 bytes
 unfoldable pub fileOf : List ℕ → List ℕ

@@ -6,7 +6,8 @@ use state::Latches;
 ghost use mathlib.Core.Path.{_≡_};
 ghost use Prim.Native.Nat.{_+_, _≤_};
 ghost use lib.ListN.{length};
-ghost use Rattle.state_bytes.specs.Bytes.{addressOf, busOf, latchesOf, coreOf, filledOf, Loaded, tailOf, storedOf};
+ghost use Rattle.state_bytes.specs.Bytes.{addressOf, busOf, latchesOf, coreOf, Loaded, tailOf, storedOf};
+ghost use Rattle.state_bytes.specs.Filled.{filledOf};
 ghost use Rattle.state_bytes.specs.Range.{addressInRange, latchesInRange, coreInRange, stateInRange};
 
 fn address_in(s: &[u8]) -> Address

@@ -10,7 +10,7 @@ use Rattle.choose.specs.Below.{allBelow}
 use Rattle.choose.proofs.Table.{all-more, all-fails}
 use lib.ListN.{length}
 use Rattle.numbers.specs.Numbers.{byteAt}
-use Rattle.deck.specs.Ranges.{everyQuad}
+use Rattle.deck.specs.Quads.{everyQuad}
 use Rattle.deck.proofs.every_quad.Statement.{statement}
 use Rattle.deck.proofs.every_quad.Tie as tie
 

@@ -9,7 +9,8 @@ use borrow.Author.Tests.{not-true, not-false, le-leb, lt-leb}
 use Rattle.choose.specs.Below.{allBelow}
 use Rattle.choose.proofs.Table.{all-more, all-fails}
 use lib.ListN.{length, getD}
-use Rattle.rows.specs.Section.{emptyRow, rowFrom}
+use Rattle.rows.specs.Section.{rowFrom}
+use Rattle.rows.specs.Table.{emptyRow}
 use Rattle.rows.specs.declared.Row.{Row}
 use Rattle.rows.specs.Range.{rowInRange}
 use Rattle.deck.specs.Ranges.{rowsPartInRange}

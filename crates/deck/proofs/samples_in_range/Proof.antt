@@ -1,5 +1,6 @@
 -- `deck::samples_in_range` meets its contract, by what `every_quad` ensures. Assumes nothing.
-use Rattle.deck.specs.Ranges.{everyQuad, samplesInRange}
+use Rattle.deck.specs.Ranges.{samplesInRange}
+use Rattle.deck.specs.Quads.{everyQuad}
 use borrow.Author.Needs.{needs}
 use Rattle.deck.proofs.samples_in_range.Statement.{statement}
 use Rattle.deck.proofs.samples_in_range.Tie as tie

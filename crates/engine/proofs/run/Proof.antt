@@ -4,7 +4,7 @@ use native.Mathlib.Omega.{arith}
 use lib.ListN.{length}
 use mathlib.Core.List.{List}
 use Prim.Native.Nat.{ℕ}
-use Rattle.engine.specs.Run.{worldOf}
+use Rattle.engine.specs.RunEnds.{worldOf}
 use Rattle.engine.proofs.Hosts.{places, refuses, answers, same-run}
 use borrow.Author.Needs.{needs}
 use Rattle.engine.proofs.run.Statement.{statement}

@@ -4,7 +4,7 @@ use Prim.Native.Nat.{_≤_, _-_, zero-le}
 use native.Mathlib.Omega.{arith}
 use lib.ListN.{length}
 use borrow.Author.Needs.{needs}
-use Rattle.rows.specs.Section.{filledTable}
+use Rattle.rows.specs.Table.{filledTable}
 use Rattle.rows.proofs.Steps.{filled-none, filled-more, filled-length}
 use Rattle.rows.proofs.load.Statement.{statement}
 use Rattle.rows.proofs.load.Tie as tie

@@ -54,7 +54,7 @@ use Rattle.rows.specs.declared.Row.{Row}
 use Rattle.rows.specs.declared.Inputs.{Inputs}
 use Rattle.rows.specs.declared.Outputs.{Outputs}
 use Rattle.rows.specs.Scan.{none, mergedOf, scanFrom, scanOf}
-use Rattle.rows.specs.Section.{emptyRow}
+use Rattle.rows.specs.Table.{emptyRow}
 use Rattle.rows.proofs.Steps.{rowAt, scan-step, scan-end}
 use Rattle.rows.proofs.Row as T
 use Rattle.rows.proofs.Row.Laws as T′

@@ -51,7 +51,7 @@ use Rattle.rows.specs.declared.Row.{Row}
 use Rattle.rows.specs.declared.Inputs.{Inputs}
 use Rattle.rows.specs.declared.Outputs.{Outputs}
 use Rattle.rows.specs.Scan.{scanOf}
-use Rattle.rows.specs.Section.{atMost128}
+use Rattle.rows.specs.Table.{atMost128}
 use Rattle.rows.proofs.Steps.{take-at-most}
 use Rattle.rows.proofs.Lent as lent
 use Rattle.rows.proofs.Row as T

@@ -5,7 +5,8 @@ use mathlib.Core.Path.{_≡_, ap, _∙_}
 use native.Mathlib.Omega.{arith}
 use lib.ListN.{length}
 use lib.Seq.{paste, paste-zero}
-use Rattle.state_bytes.specs.Bytes.{padded, filledOf}
+use Rattle.state_bytes.specs.Bytes.{padded}
+use Rattle.state_bytes.specs.Filled.{filledOf}
 use Rattle.state_bytes.proofs.Steps.{fill-more, fill-length}
 use Rattle.state_bytes.proofs.fill.Statement.{statement}
 use Rattle.state_bytes.proofs.fill.Tie as tie
