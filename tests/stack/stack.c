@@ -1,0 +1,150 @@
+/* How much stack `run` takes. It is called on a stack of its own, painted before, and the deepest byte that it changed
+   tells: stack BOUND. Each kind of deck has to get its answer and take less than BOUND bytes. */
+#define _DEFAULT_SOURCE
+#include "../../host/chuenphrao.h"
+
+#include <stdbool.h>
+#include <stdio.h>
+#include <stdlib.h>
+#include <string.h>
+#include <sys/mman.h>
+#include <ucontext.h>
+
+enum { ROOM = 1 << 20, PAGE = 4096, CODES = 256 };
+enum { REPLY = 1, COMPUTE = 4, RESET = 8, LTSR = 4, JUMP_TO_0 = 0, NOP = 0xFF00 };
+
+/* Words, rows and samples are all alike: rows match always, and raise these lines; of a sample's lines these are not as in one
+   with COMPUTE alone. */
+typedef struct {
+    const char *name;
+    uint32_t answer;
+    unsigned words, word, rows, raised, more_states, g, samples, lines, places_missing;
+} kind;
+
+static uint8_t deck[2 * DECK_MOST], requests[DECK_MOST], state[STATE_BYTES];
+static size_t deck_len, requests_len;
+static uint8_t *room, paint;
+static size_t taken;
+static report is;
+static ucontext_t outside, inside;
+
+static void put(unsigned number, unsigned bytes)
+{
+    for (; bytes > 0; bytes--, number >>= 8)
+        deck[deck_len++] = (uint8_t)number;
+}
+
+static void make(const kind *of)
+{
+    deck_len = 0;
+    put(of->words, 2);
+    for (unsigned i = 0; i < of->words; i++)
+        put(of->word, WORD_BYTES);
+    put(of->rows, 2);
+    for (unsigned i = 0; i < of->rows; i++, deck_len += ROW_BYTES) {
+        memset(deck + deck_len, 0, ROW_BYTES);
+        deck[deck_len + 14] = (uint8_t)of->raised;
+    }
+    put(1 + of->more_states, 2);
+    for (unsigned i = 0; i < 1 + of->more_states; i++, deck_len += STATE_BYTES) {
+        memset(deck + deck_len, 0, STATE_BYTES);
+        deck[deck_len + 26] = (uint8_t)of->g;
+    }
+    put(of->samples, 2);
+    for (unsigned i = 0; i < of->samples; i++)
+        put((of->lines ^ COMPUTE) << 16, SAMPLE_BYTES);
+    requests_len = (of->samples - of->places_missing) * (size_t)REQUEST_BYTES;
+}
+
+/* From where this function calls, down to the deepest byte that was changed. */
+static void call(void)
+{
+    const uint8_t *here = __builtin_frame_address(0), *at = room;
+    is = run(deck, deck_len, requests, requests_len, state, sizeof state);
+    while (*at == paint)
+        at++;
+    taken = (size_t)(here - at);
+}
+
+/* The paint can be a byte that `run` writes, so there are two. */
+static size_t measured(void)
+{
+    size_t most = 0;
+    for (paint = 0xC3; paint; paint = paint == 0xC3 ? 0x3C : 0) {
+        memset(room, paint, ROOM);
+        getcontext(&inside);
+        inside.uc_stack.ss_sp = room;
+        inside.uc_stack.ss_size = ROOM;
+        inside.uc_link = &outside;
+        makecontext(&inside, call, 0);
+        swapcontext(&outside, &inside);
+        most = taken > most ? taken : most;
+    }
+    return most;
+}
+
+static bool fits(const kind *of, size_t bound)
+{
+    make(of);
+    size_t most = measured();
+    printf("%-26s answer %u, %zu bytes\n", of->name, is.answer, most);
+    return is.answer == of->answer && most > 0 && most < bound;
+}
+
+/* Whatever the answer; the largest over all top bytes, with registers and with those that G selects. */
+static bool codes_fit(size_t bound)
+{
+    size_t most = 0;
+    for (unsigned i = 0; i < 4 * CODES; i++) {
+        unsigned word = i / 4 << 8 | (i & 1 ? 0x10 : 0x42);
+        make(&(kind){.words = 1, .word = word, .samples = 1, .lines = i & 2 ? REPLY : 0});
+        size_t one = measured();
+        most = one > most ? one : most;
+    }
+    printf("%-26s %zu bytes at most\n", "each top byte", most);
+    return most > 0 && most < bound;
+}
+
+static const kind kinds[] = {
+    {.name = "no words, rows or samples"},
+    {.name = "no rows", .words = 2048, .word = NOP, .samples = 2048},
+    {.name = "128 rows", .words = 2048, .word = NOP, .rows = 128, .raised = LTSR, .samples = 2048},
+    {.name = "long, no rows", .words = 1, .word = JUMP_TO_0, .samples = 16370},
+    {.name = "long, 128 rows", .words = 2048, .word = JUMP_TO_0, .rows = 128, .samples = 13811},
+    {.name = "RESET", .samples = 16371, .lines = RESET},
+    {.name = "COMPUTE low", .samples = 16371, .lines = COMPUTE},
+    {.name = "state out of range", .answer = 1, .words = 1, .rows = 128, .g = 8, .samples = 1},
+    {.name = "a word of 2^22", .answer = 2, .words = 2048, .word = 1 << 22, .rows = 128, .samples = 1},
+    {.name = "2,049 words", .answer = 2, .words = 2049, .rows = 128, .samples = 1},
+    {.name = "rows out of range", .answer = 3, .words = 1, .rows = 128, .raised = 8, .samples = 1},
+    {.name = "129 rows", .answer = 3, .words = 1, .rows = 129, .samples = 1},
+    {.name = "samples out of range", .answer = 4, .words = 1, .rows = 128, .samples = 1, .lines = 32},
+    {.name = "request buffer too short", .answer = 4, .words = 1, .rows = 128, .samples = 2, .places_missing = 1},
+    {.name = "LC has no word", .answer = 5, .words = 1, .word = NOP, .rows = 128, .samples = 2},
+    {.name = "code unlisted", .answer = 6, .words = 1, .word = 0x7800, .rows = 128, .samples = 1},
+    {.name = "odd designator", .answer = 7, .words = 1, .word = 0xA232, .rows = 128, .samples = 1},
+    {.name = "option not listed", .answer = 8, .words = 1, .word = 0xE442, .rows = 128, .samples = 1},
+    {.name = "two states", .answer = 9, .words = 1, .rows = 128, .more_states = 1, .samples = 1},
+    {.name = "deck too long", .answer = 9, .rows = 1, .samples = 16371},
+};
+
+int main(int count, char **words)
+{
+    size_t bound = count == 2 ? strtoul(words[1], NULL, 10) : 0;
+    unsigned passed = 0, failed = 0;
+    uint8_t *whole = mmap(NULL, PAGE + ROOM, PROT_NONE, MAP_PRIVATE | MAP_ANONYMOUS, -1, 0);
+    room = whole + PAGE;
+    if (bound == 0 || whole == MAP_FAILED || mprotect(room, ROOM, PROT_READ | PROT_WRITE))
+        return 2;
+    for (size_t i = 0; i < sizeof kinds / sizeof *kinds; i++)
+        if (fits(&kinds[i], bound))
+            passed++;
+        else
+            failed++;
+    if (codes_fit(bound))
+        passed++;
+    else
+        failed++;
+    printf("%u passed, %u failed\n", passed, failed);
+    return failed != 0;
+}
