@@ -2,20 +2,14 @@
    A call is three lengths of 4 bytes (deck, request buffer, state buffer), then the three as they are before.
    Its answer is the report, the damage (4 bytes), the nanoseconds (8 bytes), then both buffers as they are after. */
 #define _POSIX_C_SOURCE 200809L
+#include "../../host/chuenphrao.h"
+
 #include <stdbool.h>
-#include <stdint.h>
 #include <stdio.h>
 #include <stdlib.h>
 #include <string.h>
 #include <time.h>
 #include <unistd.h>
-
-typedef struct {
-    uint32_t answer, attempts, microcycles;
-} report;
-
-report run(const uint8_t *deck, size_t deck_len, uint8_t *requests, size_t requests_len, uint8_t *state,
-           size_t state_len);
 
 /* Bytes before and after each buffer; odd, so that no buffer is aligned. With 0 a block is exactly the buffer,
    and a memory checker sees its ends. */

@@ -9,7 +9,7 @@
 
 typedef __int128 wide;
 
-enum { STATE = 41, G = 26, FLAGS = 27, LC = 28 };
+enum { G = 26, FLAGS = 27, LC = 28 };
 
 /* The steps of a cut: designators of target and source, and whether they are of pairs. */
 typedef struct {
@@ -104,8 +104,8 @@ static size_t make_deck(uint8_t *deck, const cut *c, bool minus, const uint8_t *
     }
     n += put16(deck + n, 0);
     n += put16(deck + n, 1);
-    memcpy(deck + n, state, STATE);
-    n += STATE;
+    memcpy(deck + n, state, STATE_BYTES);
+    n += STATE_BYTES;
     n += put16(deck + n, c->steps);
     for (int i = 0; i < c->steps; i++) {
         n += put16(deck + n, random_below(65536));
@@ -125,7 +125,7 @@ static bool differs(const char *what, bool wrong)
 static bool right(const cut *c, bool minus, uint8_t *state)
 {
     static uint8_t deck[65536];
-    uint8_t after[STATE], places[28], expected[STATE];
+    uint8_t after[STATE_BYTES], places[28], expected[STATE_BYTES];
     wide range = (wide)1 << 8 * c->bytes, half = range / 2;
     wide x = number(state, c, c->target), y = number(state, c, c->source);
     wide whole = minus ? x - y : x + y;
@@ -134,7 +134,7 @@ static bool right(const cut *c, bool minus, uint8_t *state)
     report r = run(deck, make_deck(deck, c, minus, state), places, 4 * c->steps, after, sizeof after);
     unsigned lc = state[LC] + 256 * state[LC + 1] + c->steps;
 
-    memcpy(expected, state, STATE);
+    memcpy(expected, state, STATE_BYTES);
     put_number(expected, c, c->target, (whole + range) % range);
     bool wrong = differs("the answer", r.answer != 0 || r.attempts != (unsigned)c->steps || r.microcycles != (unsigned)c->bytes);
     wrong |= differs("a register", memcmp(after, expected, 26));
@@ -143,7 +143,7 @@ static bool right(const cut *c, bool minus, uint8_t *state)
     wrong |= differs("LC", after[LC] + 256u * after[LC + 1] != lc % 2048);
     for (int i = 0; i < 4 * c->steps; i++)
         wrong |= differs("a request", places[i] != 0);
-    memcpy(state, after, STATE);
+    memcpy(state, after, STATE_BYTES);
     return !wrong;
 }
 
@@ -152,7 +152,7 @@ static void random_state(uint8_t *state)
     for (int i = 0; i <= FLAGS; i++)
         state[i] = random_below(256);
     state[G] %= 8;
-    memset(state + LC, 0, STATE - LC);
+    memset(state + LC, 0, STATE_BYTES - LC);
     state[LC] = random_below(5);
 }
 
@@ -162,10 +162,10 @@ int main(int argc, char **argv)
     seed = argc > 1 ? strtoull(argv[1], NULL, 10) : 1;
     printf("seed %llu\n", (unsigned long long)seed);
     for (unsigned i = 0; i < count; i++) {
-        uint8_t state[STATE], before[STATE];
+        uint8_t state[STATE_BYTES], before[STATE_BYTES];
         cut c = random_cut(1 + i % 7);
         random_state(state);
-        memcpy(before, state, STATE);
+        memcpy(before, state, STATE_BYTES);
         bool sum = right(&c, false, state);
         bool back = right(&c, true, state) && !memcmp(state, before, 26);
         bool difference = right(&c, true, state);

@@ -1,5 +1,17 @@
 //! A deck taken apart, as far as its counts go; nothing is tested for its range.
 
+use interpreter::section;
+
+/// An unlisted word, wherever a vector's own words do not lie: it must not be executed.
+pub const ELSEWHERE: u32 = 0x7800;
+
+/// The words of a deck whose own word lies at this address, the last.
+pub fn words_to(lc: u16, word: u32) -> Vec<u32> {
+    let mut words = vec![ELSEWHERE; usize::from(lc)];
+    words.push(word);
+    words
+}
+
 /// The bytes of the four sections, their counts left away.
 #[derive(Clone, Copy)]
 pub struct Sections<'a> {
@@ -50,10 +62,4 @@ impl<'a> Sections<'a> {
         let bytes = self.words.get(at..at + 4)?;
         Some(u32::from_le_bytes(bytes.try_into().ok()?))
     }
-}
-
-fn section(bytes: &[u8], size: usize) -> Option<(&[u8], &[u8])> {
-    let count = bytes.get(..2)?;
-    let end = 2 + size * usize::from(u16::from_le_bytes([count[0], count[1]]));
-    Some((bytes.get(2..end)?, &bytes[end..]))
 }

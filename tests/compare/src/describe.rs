@@ -1,7 +1,8 @@
-//! Words, samples, states and requests in readable form.
+//! Instructions, samples, states and requests in readable form.
 
 use crate::call::Left;
-use crate::listing;
+use crate::fields::{other_fields, register_fields, Field};
+use crate::{flags, lines, listing};
 
 /// What a request asks for, by its kind.
 pub const KINDS: [&str; 13] = [
@@ -20,42 +21,32 @@ pub const KINDS: [&str; 13] = [
     "compute-low",
 ];
 
-/// The flags, high to low.
-pub const FLAGS: [&str; 8] = ["N", "Z", "V", "C", "NB", "ZB", "C4", "C8"];
+/// The kind of a wait. Kinds from here on are of attempts that executed nothing.
+pub const WAIT: u32 = 10;
 
-/// The lines of a sample, low to high.
-pub const LINES: [&str; 5] = ["REPLY", "BUSY", "COMPUTE", "RESET", "ICS"];
+/// The kind of a RESET.
+pub const RESET: u32 = 11;
 
-/// G0-GB, R2-RF.
-pub fn registers() -> Vec<String> {
-    let general = (0..12).map(|at| format!("G{at:X}"));
-    general
-        .chain((2..16).map(|at| format!("R{at:X}")))
-        .collect()
-}
-
-/// A word of 22 bits.
-pub fn word(word: u32) -> String {
+/// A word's mnemonic and fields.
+pub fn instruction(word: u32) -> String {
     let top = (word >> 8) as u8;
-    let name = listing::key(top).unwrap_or_else(|| "unlisted".to_string());
-    let operands = match top {
-        0x00..=0x0F => format!("address {:03X}", word & 0x7FF),
-        0x10..=0x1F => format!("address {:02X}", word & 0xFF),
-        0x20..=0x6F => format!("literal {:02X} a {:X}", word >> 4 & 0xFF, word & 15),
-        _ => format!("b {:X} a {:X}", word >> 4 & 15, word & 15),
+    let name = listing::mnemonic(top).unwrap_or("unlisted");
+    let fields = match top {
+        0x00..=0x07 => format!(" {:03X}", word & 0x7FF),
+        0x08..=0x0F => String::new(),
+        0x10..=0x1F => format!(" {:02X}", word & 0xFF),
+        0x20..=0x6F => format!(" literal {:02X}, a {:X}", word >> 4 & 0xFF, word & 15),
+        _ => format!(" b {:X}, a {:X}", word >> 4 & 15, word & 15),
     };
-    format!("{word:06X} {name} {operands}")
+    let bits = (16..22).filter(|bit| word >> bit & 1 == 1);
+    let bits: String = bits.map(|bit| format!(", bit {bit}")).collect();
+    format!("{name}{fields}{bits}")
 }
 
 /// A sample's four bytes.
-pub fn sample(bytes: &[u8]) -> String {
-    let high = (0..5).filter(|at| bytes[2] >> at & 1 == 1);
-    let lines: Vec<&str> = high.map(|at| LINES[at]).collect();
-    let [low, high, interrupts] = [bytes[0], bytes[1], bytes[3]];
-    format!(
-        "data {high:02X}{low:02X} I0-I3 {interrupts:X} {}",
-        lines.join(" ")
-    )
+pub fn sample(&[low, high, high_lines, interrupts]: &[u8; 4]) -> String {
+    let high_lines = lines::names(high_lines).join(" ");
+    format!("data {high:02X}{low:02X} I0-I3 {interrupts:X} {high_lines}")
 }
 
 /// A request.
@@ -66,38 +57,20 @@ pub fn request(request: u32) -> String {
     }
 }
 
-/// A flag byte by the flags that are 1.
-pub fn flags(byte: u8) -> String {
-    let set = (0..8).filter(|at| byte << at & 0x80 != 0);
-    let names: Vec<&str> = set.map(|at| FLAGS[at]).collect();
-    format!("{byte:02X} ({})", names.join(" "))
-}
-
-/// The fields of a state buffer by name. One of another length than 41 has no fields.
-pub fn fields(state: &[u8]) -> Vec<(String, String)> {
-    if state.len() != 41 {
-        return vec![("buffer".to_string(), format!("{state:02X?}"))];
-    }
-    let number = |at: usize| format!("{:02X}{:02X}", state[at + 1], state[at]);
-    let mark = |bit: u8| (state[37] >> bit & 1).to_string();
-    let registers = registers().into_iter().zip(state);
-    let registers = registers.map(|(name, byte)| (name, format!("{byte:02X}")));
-    let others = [
-        ("G", state[26].to_string()),
-        ("flags", flags(state[27])),
-        ("LC", number(28)),
-        ("RR", number(30)),
-        ("TR", number(32)),
-        ("M", number(34)),
-        ("TSR", state[36].to_string()),
-        ("ICS", mark(0)),
-        ("SYNC", mark(1)),
-        ("IACK", mark(2)),
-        ("I4-I6", state[38].to_string()),
-        ("modification", format!("{} {}", mark(3), number(39))),
+/// The fields of a state buffer by name, flags as one. A buffer of another length than 41 has none.
+pub fn fields(state: &[u8]) -> Vec<Field> {
+    let named = |name: &str, value: String| (name.to_string(), value);
+    let state = match <&[u8; 41]>::try_from(state) {
+        Ok(state) => state,
+        Err(_) => return vec![named("buffer", format!("{state:02X?}"))],
+    };
+    let flags = format!("{:02X} ({})", state[27], flags::names(state[27]));
+    let unused = format!("{:X} {:X}", state[37] >> 4, state[38] >> 3);
+    let rest = vec![
+        named("flags", flags),
+        named("unused bits of marks and I4-I6", unused),
     ];
-    let others = others.map(|(name, value)| (name.to_string(), value));
-    registers.chain(others).collect()
+    [register_fields(state), other_fields(state), rest].concat()
 }
 
 /// A state buffer in one line.
@@ -126,7 +99,7 @@ fn damage(bits: u32) -> String {
 }
 
 /// The report by name.
-fn report(left: &Left) -> Vec<(String, String)> {
+fn report(left: &Left) -> Vec<Field> {
     let report = [
         ("answer", left.report.answer.to_string()),
         ("attempts", left.report.attempts.to_string()),
@@ -135,6 +108,15 @@ fn report(left: &Left) -> Vec<(String, String)> {
     ];
     let report = report.map(|(name, value)| (name.to_string(), value));
     report.to_vec()
+}
+
+/// What is wrong with what was left behind, if anything.
+pub fn wrong(expected: &Left, got: Option<&Left>) -> Option<String> {
+    match got {
+        Some(got) if got == expected => None,
+        Some(got) => Some(differences(expected, got).join("; ")),
+        None => Some("no answer".to_string()),
+    }
 }
 
 /// What differs between two that were left behind, one to a line.
@@ -148,7 +130,7 @@ pub fn differences(expected: &Left, got: &Left) -> Vec<String> {
 }
 
 /// The places of a request buffer, and what is too short for one.
-fn places(left: &Left) -> Vec<(String, String)> {
+fn places(left: &Left) -> Vec<Field> {
     let places = left.requests.chunks(4).enumerate();
     let places = places.map(|(at, bytes)| {
         let value = match <[u8; 4]>::try_from(bytes) {

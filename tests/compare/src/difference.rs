@@ -79,14 +79,15 @@ fn attempt(call: &Call) -> Vec<String> {
         _ => return Vec::new(),
     };
     let before = cut(call, count - 1).interpreted().state;
-    let sample = &sections.samples[4 * count - 4..];
     let mut lines = vec![
         format!("attempt {count}, rows {}", sections.rows.len() / 16),
-        format!("sample: {}", describe::sample(sample)),
         format!("before: {}", describe::state(&before)),
     ];
+    if let Ok(sample) = sections.samples[4 * count - 4..].try_into() {
+        lines.push(format!("sample: {}", describe::sample(sample)));
+    }
     let word = word(&sections, &before);
-    lines.extend(word.map(|word| format!("word: {}", describe::word(word))));
+    lines.extend(word.map(|word| format!("word: {word:06X} {}", describe::instruction(word))));
     lines
 }
 

@@ -23,6 +23,16 @@ impl Engine {
         Self(command)
     }
 
+    /// What each call leaves behind, by the engine and by the interpreter.
+    pub fn both(&self, calls: &[Call]) -> io::Result<[(&'static str, Vec<Left>); 2]> {
+        let by_engine = self.run(calls)?.into_iter().map(|answer| answer.left);
+        let by_interpreter = calls.iter().map(Call::interpreted);
+        Ok([
+            ("engine", by_engine.collect()),
+            ("interpreter", by_interpreter.collect()),
+        ])
+    }
+
     /// Runs the calls in one process. When that dies, answers are missing from the call that killed
     /// it on.
     pub fn run(&self, calls: &[Call]) -> io::Result<Vec<Answer>> {

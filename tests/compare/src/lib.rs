@@ -9,4 +9,8 @@ pub mod deck;
 pub mod describe;
 pub mod difference;
 pub mod engine;
+pub mod fields;
+pub mod flags;
+pub mod lines;
 pub mod listing;
+pub mod tally;

@@ -87,7 +87,27 @@ pub fn keys() -> Vec<String> {
 /// Listed but left out: CAD, always refused.
 pub const LEFT_OUT: &str = "AC-CAD";
 
-/// Whether a top byte is a code that waits for its lines.
-pub fn waits(top: u8) -> bool {
-    matches!(top, 0xE0..=0xE3 | 0xF0..=0xFD)
+/// The key of any top byte: an unlisted one has its own, as `78-unlisted`.
+pub fn any_key(top: u8) -> String {
+    key(top).unwrap_or_else(|| format!("{top:02X}-unlisted"))
+}
+
+/// When a code waits.
+#[derive(Clone, Copy, PartialEq, Eq)]
+pub enum Waits {
+    /// Never.
+    Never,
+    /// While REPLY or BUSY is high.
+    Occupied,
+    /// While REPLY is low.
+    Unanswered,
+}
+
+/// When the code of a top byte waits.
+pub fn waits(top: u8) -> Waits {
+    match top {
+        0xF0..=0xFB => Waits::Occupied,
+        0xE0..=0xE3 | 0xFC | 0xFD => Waits::Unanswered,
+        _ => Waits::Never,
+    }
 }

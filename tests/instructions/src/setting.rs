@@ -2,22 +2,18 @@
 
 use crate::vector::{Term, Vector};
 use compare::call::{Call, Left};
-use compare::describe::{registers, FLAGS};
+use compare::deck::words_to;
+use compare::describe::WAIT;
+use compare::fields::registers;
+use compare::{flags, lines};
 use interpreter::decks::Single;
 use interpreter::{Report, State};
 
-/// An unlisted word, wherever the vector's own does not lie.
-const ELSEWHERE: u32 = 0x7800;
-
-/// The kind of a wait.
-const WAIT: u32 = 10;
-
 /// A call and what it must leave behind.
 pub struct Setting<'a> {
-    /// The vector.
-    pub vector: &'a Vector,
+    vector: &'a Vector,
     /// Whether what it does not name is high.
-    pub high: bool,
+    high: bool,
     /// The deck of one sample.
     pub call: Call,
     /// What must be after.
@@ -29,11 +25,8 @@ impl<'a> Setting<'a> {
     pub fn new(vector: &'a Vector, high: bool) -> Result<Self, String> {
         let mut before = background(high);
         set_all(&mut before, &vector.before)?;
-        let mut words = vec![ELSEWHERE; usize::from(before.lc)];
-        words.extend([vector.word, ELSEWHERE]);
-        words.truncate(2048);
         let single = Single {
-            words,
+            words: words_to(before.lc, vector.word),
             rows: Vec::new(),
             state: before.to_bytes(),
             sample: sample(&vector.sample, high)?,
@@ -46,6 +39,13 @@ impl<'a> Setting<'a> {
             call,
             expected,
         })
+    }
+
+    /// Which vector it is of, and how the rest is.
+    pub fn title(&self) -> String {
+        let rest = if self.high { "high" } else { "low" };
+        let Vector { line, key, .. } = self.vector;
+        format!("line {line}, {key}, the rest {rest}")
     }
 }
 
@@ -69,8 +69,8 @@ fn set(state: &mut State, name: &str, number: u32) -> Option<()> {
         state.registers[at] = byte?;
         return Some(());
     }
-    if let Some(at) = FLAGS.iter().position(|&own| own == name) {
-        set_bit(&mut state.flags, 7 - at, bit?);
+    if let Some(flag) = flags::bit(name) {
+        set_bits(&mut state.flags, flag, bit?);
         return Some(());
     }
     match name {
@@ -83,29 +83,32 @@ fn set(state: &mut State, name: &str, number: u32) -> Option<()> {
         "ICS" => state.ics = bit? == 1,
         "SYNC" => state.sync = bit? == 1,
         "IACK" => state.iack = bit? == 1,
-        "I4" => set_bit(&mut state.internal, 0, bit?),
-        "I5" => set_bit(&mut state.internal, 1, bit?),
-        "I6" => set_bit(&mut state.internal, 2, bit?),
+        "I4" => set_bits(&mut state.internal, 1, bit?),
+        "I5" => set_bits(&mut state.internal, 2, bit?),
+        "I6" => set_bits(&mut state.internal, 4, bit?),
         "MOD" => state.modification = Some(word?),
         _ => return None,
     }
     Some(())
 }
 
-fn set_bit(byte: &mut u8, at: usize, bit: u8) {
-    *byte = *byte & !(1 << at) | bit << at;
+/// Sets the bits of a mask, all to the same.
+fn set_bits(byte: &mut u8, mask: u8, bit: u8) {
+    *byte = *byte & !mask | (mask * bit);
 }
 
 /// The sample's four bytes: COMPUTE high, RESET low.
 fn sample(terms: &[Term], high: bool) -> Result<[u8; 4], String> {
     let all = if high { 0xFF } else { 0 };
-    let mut sample = [all, all, all & 0b10011 | 0b00100, all & 15];
+    let given = lines::REPLY | lines::BUSY | lines::ICS;
+    let mut sample = [all, all, all & given | lines::COMPUTE, all & 15];
     for (name, number) in terms {
-        match (name.as_str(), number) {
-            ("DATA", 0..=0xFFFF) => sample[..2].copy_from_slice(&(*number as u16).to_le_bytes()),
-            ("REPLY", 0..=1) => set_bit(&mut sample[2], 0, *number as u8),
-            ("BUSY", 0..=1) => set_bit(&mut sample[2], 1, *number as u8),
-            ("ICS", 0..=1) => set_bit(&mut sample[2], 4, *number as u8),
+        let line = lines::line(name).filter(|line| given & line != 0);
+        match (name.as_str(), line, number) {
+            ("DATA", _, 0..=0xFFFF) => {
+                sample[..2].copy_from_slice(&(*number as u16).to_le_bytes());
+            }
+            (_, Some(line), 0..=1) => set_bits(&mut sample[2], line, *number as u8),
             _ => return Err(format!("{name} cannot be {number:X}")),
         }
     }

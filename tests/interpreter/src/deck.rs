@@ -125,7 +125,7 @@ fn sections(bytes: &[u8]) -> Option<Sections<'_>> {
 }
 
 /// A count, the bytes of as many items of this size, and the bytes after them.
-fn section(bytes: &[u8], size: usize) -> Option<(&[u8], &[u8])> {
+pub fn section(bytes: &[u8], size: usize) -> Option<(&[u8], &[u8])> {
     let count = bytes.get(..2)?;
     let end = 2 + usize::from(u16::from_le_bytes([count[0], count[1]])) * size;
     Some((bytes.get(2..end)?, &bytes[end..]))

@@ -18,7 +18,7 @@ mod sample;
 mod state;
 
 pub use attempt::{attempt, Outcome};
-pub use deck::{run, Report, DECK_LIMIT};
+pub use deck::{run, section, Report, DECK_LIMIT};
 pub use row::Row;
 pub use sample::Sample;
-pub use state::State;
+pub use state::{place, State};

@@ -19,6 +19,12 @@ const fn file() -> [[u8; 16]; 8] {
     file
 }
 
+/// Where the register file holds the designator in the low four bits, under this G.
+#[inline]
+pub fn place(designator: u8, g: u8) -> usize {
+    usize::from(FILE[usize::from(g & 7)][usize::from(designator & 15)])
+}
+
 /// The state, always in range: G, TSR and I4-I6 are 0-7, LC and RR 0-2047.
 #[derive(Clone, Debug, PartialEq, Eq)]
 pub struct State {
@@ -99,7 +105,7 @@ impl State {
     /// Where the register file holds the designator in the low four bits.
     #[inline]
     pub(crate) fn place(&self, designator: u32) -> usize {
-        usize::from(FILE[usize::from(self.g & 7)][(designator & 15) as usize])
+        place(designator as u8, self.g)
     }
 
     /// The pair whose low byte is at this place.

@@ -8,7 +8,8 @@
 mod observed;
 mod page;
 
-use compare::listing;
+use compare::listing::any_key;
+use compare::tally::{ended, Tally};
 use observed::Observed;
 use page::Requirement;
 use std::fs;
@@ -24,30 +25,15 @@ fn main() -> ExitCode {
             return ExitCode::FAILURE;
         }
     };
-    match held(&page, Path::new(&vectors)) {
-        Ok((passed, failed)) => {
-            println!("{passed} passed, {failed} failed");
-            ExitCode::from(u8::from(failed > 0))
-        }
-        Err(error) => {
-            eprintln!("requirements: {error}");
-            ExitCode::FAILURE
-        }
-    }
+    ended("requirements", held(&page, Path::new(&vectors)))
 }
 
 /// How many cells of the page are so, and how many are not.
-fn held(page: &str, vectors: &Path) -> Result<(usize, usize), String> {
+fn held(page: &str, vectors: &Path) -> Result<Tally, String> {
     let text = fs::read_to_string(page).map_err(|error| format!("{page}: {error}"))?;
     let requirements = page::read(&text)?;
-    let (mut passed, mut failed) = (0, 0);
-    let mut check = |what: &str, holds: bool| {
-        passed += usize::from(holds);
-        failed += usize::from(!holds);
-        if !holds {
-            println!("{what}");
-        }
-    };
+    let mut tally = Tally::default();
+    let mut check = |what: &str, holds: bool| tally.check((!holds).then(|| what.to_string()));
     let tops = requirements.iter().flat_map(|it| it.codes.clone());
     check("not every top byte once, in order", tops.eq(0..=255));
     let listed = requirements.iter().filter(|it| it.listed()).count();
@@ -60,14 +46,12 @@ fn held(page: &str, vectors: &Path) -> Result<(usize, usize), String> {
             check(&format!("{}: {cell}", requirement.key), holds);
         }
     }
-    Ok((passed, failed))
+    Ok(tally)
 }
 
 /// Each cell of a requirement, and whether it is so.
 fn cells(it: &Requirement, vectors: &Path) -> Vec<(&'static str, bool)> {
     let seen = Observed::of(it.codes.clone());
-    let key =
-        listing::key(*it.codes.start()).unwrap_or(format!("{:02X}-unlisted", it.codes.start()));
     let file = fs::read_to_string(vectors.join(format!("{}.txt", it.key))).unwrap_or_default();
     let count = file
         .lines()
@@ -75,7 +59,7 @@ fn cells(it: &Requirement, vectors: &Path) -> Vec<(&'static str, bool)> {
         .count();
     let format = it.listed().then(|| page::format(*it.codes.start()));
     let mut cells = vec![
-        ("key", it.key == key),
+        ("key", it.key == any_key(*it.codes.start())),
         ("format", it.format.as_deref() == format),
         (
             "refusals",

@@ -1,5 +1,6 @@
 //! What attempts of the interpreter show of some top bytes.
 
+use compare::describe::WAIT;
 use interpreter::decks::Random;
 use interpreter::{attempt, Outcome, Sample, State};
 use std::ops::RangeInclusive;
@@ -23,8 +24,6 @@ pub struct Observed {
 
 /// For each low byte and each pair of REPLY and BUSY.
 const STATES: u64 = 40;
-
-const WAIT: u32 = 10;
 
 impl Observed {
     pub fn of(codes: RangeInclusive<u8>) -> Self {

@@ -1,5 +1,6 @@
 //! The page as it is read.
 
+use compare::flags;
 use std::ops::RangeInclusive;
 
 /// One line of the page.
@@ -26,8 +27,6 @@ pub struct Facts {
     /// With REPLY and BUSY low, REPLY high, BUSY high, both high.
     pub waits: [bool; 4],
 }
-
-const FLAGS: [&str; 8] = ["C8", "C4", "ZB", "NB", "C", "V", "Z", "N"];
 
 const HEADS: [&str; 2] = [
     "| Key | Codes | Format | Microcycles | Status | Condition | Register | Waits | Refusals | Vectors |",
@@ -98,11 +97,8 @@ fn facts(cells: &[&str]) -> Option<Facts> {
 
 /// The flags named, all of the column's own.
 fn flags(cell: &str, own: u8) -> Option<u8> {
-    let names = cell.split(' ').filter(|name| *name != "none");
-    let mask = names.fold(Some(0), |mask, name| {
-        let bit = FLAGS.iter().position(|flag| *flag == name)?;
-        Some(mask? | 1 << bit)
-    })?;
+    let mut names = cell.split(' ').filter(|name| *name != "none");
+    let mask = names.try_fold(0, |mask, name| Some(mask | flags::bit(name)?))?;
     (mask & !own == 0).then_some(mask)
 }
 

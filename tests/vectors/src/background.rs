@@ -1,7 +1,9 @@
 //! All that a vector does not name: low before, or high.
 
-use crate::code::{Code, Waits};
-use crate::setting::{Sample, BUSY, COMPUTE, ICS, REPLY};
+use crate::code::Code;
+use crate::setting::Sample;
+use compare::lines::{BUSY, COMPUTE, ICS, REPLY};
+use compare::listing::Waits;
 use interpreter::State;
 
 /// What is not named.

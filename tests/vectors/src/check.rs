@@ -4,14 +4,10 @@ use crate::choose::Reach;
 use crate::code::{Code, Format};
 use crate::draft::Claim;
 use crate::vector::Vector;
-use crate::{demands, flags, told};
+use crate::{demands, told};
+use compare::describe::{RESET, WAIT};
+use compare::flags;
 use interpreter::State;
-
-/// Kinds from here on are of attempts that executed nothing.
-const WAIT: u32 = 10;
-
-/// The kind of a RESET.
-const RESET: u32 = 11;
 
 /// What is wrong with a vector, if anything.
 pub fn vector(code: &Code, vector: &Vector) -> Option<String> {

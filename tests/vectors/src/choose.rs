@@ -3,9 +3,9 @@
 use crate::background::Background;
 use crate::code::Code;
 use crate::draft::{high, low, Draft};
-use crate::flags::{self, V};
 use crate::operands::{borders, middling, Operands};
 use crate::shows;
+use compare::flags::{self, V};
 
 /// What was chosen for a code.
 pub struct Chosen {

@@ -1,6 +1,6 @@
 //! The 167 codes that have a file: 150 listed instructions and 17 unlisted codes.
 
-use compare::listing;
+use compare::listing::{self, any_key, Waits};
 
 /// A code and what its word holds.
 pub struct Code {
@@ -71,17 +71,6 @@ impl Input {
     }
 }
 
-/// When a code waits.
-#[derive(Clone, Copy, PartialEq, Eq)]
-pub enum Waits {
-    /// Never.
-    Never,
-    /// While REPLY or BUSY is high.
-    Occupied,
-    /// While REPLY is low.
-    Unanswered,
-}
-
 impl Code {
     /// What it reads besides registers.
     pub fn reads(&self) -> Option<Input> {
@@ -100,11 +89,7 @@ impl Code {
 
     /// When it waits.
     pub fn waits(&self) -> Waits {
-        match self.top {
-            top if !listing::waits(top) => Waits::Never,
-            0xF0..=0xFB => Waits::Occupied,
-            _ => Waits::Unanswered,
-        }
+        listing::waits(self.top)
     }
 
     /// Whether it has pairs, which begin at even designators.
@@ -117,7 +102,7 @@ impl Code {
 
     /// Whether a word is its own.
     pub fn has(&self, word: u32) -> bool {
-        key((word >> 8) as u8) == self.key
+        any_key((word >> 8) as u8) == self.key
     }
 }
 
@@ -131,15 +116,11 @@ pub fn all() -> Vec<Code> {
 /// The code of a top byte.
 pub fn of(top: u8) -> Code {
     Code {
-        key: key(top),
+        key: any_key(top),
         top,
         mnemonic: listing::mnemonic(top).unwrap_or("unlisted"),
         format: format(top),
     }
-}
-
-fn key(top: u8) -> String {
-    listing::key(top).unwrap_or_else(|| format!("{top:02X}-unlisted"))
 }
 
 fn format(top: u8) -> Format {

@@ -4,7 +4,8 @@
 use crate::code::{Code, Format};
 use crate::demand::Demand;
 use crate::draft::Claim::{Executed, Failed, NotTaken, Refused, Reset, Still, Taken, Waits};
-use crate::setting::{BUSY, COMPUTE, LOAD_RR, REPLY, RESET};
+use crate::setting::LOAD_RR;
+use compare::lines::{BUSY, COMPUTE, REPLY, RESET};
 
 /// Every code's.
 const EVERY: [&str; 3] = ["ordinary", "edge", "other"];

@@ -1,9 +1,9 @@
 //! What must come of a vector, for a reader.
 
-use crate::fields::{other_fields, register_fields};
-use crate::flags;
 use crate::vector::Vector;
 use compare::describe::KINDS;
+use compare::fields::{other_fields, register_fields};
+use compare::flags;
 use interpreter::State;
 
 /// 01's words for the answers that a vector can have.
@@ -62,7 +62,10 @@ fn described(request: u32) -> String {
 
 /// Every field that changed, and the flags.
 fn changes(before: &State, after: &State) -> Vec<String> {
-    let fields = |state: &State| [register_fields(state), other_fields(state)].concat();
+    let fields = |state: &State| {
+        let bytes = state.to_bytes();
+        [register_fields(&bytes), other_fields(&bytes)].concat()
+    };
     let both = fields(before).into_iter().zip(fields(after));
     let changed = both.filter(|((_, before), (_, after))| before != after);
     let mut lines: Vec<String> = changed

@@ -2,10 +2,10 @@
 
 use crate::choose::Reach;
 use crate::code::{Code, Format};
-use crate::flags;
 use crate::meaning;
 use crate::vector::Vector;
 use crate::{bytes, expected, readable};
+use compare::flags;
 
 /// Where the text comes from and what it is for.
 const ORIGIN: &str = "\

@@ -12,9 +12,7 @@ mod demand;
 mod demands;
 mod draft;
 mod expected;
-mod fields;
 mod file;
-mod flags;
 mod further;
 mod meaning;
 mod operands;
@@ -23,12 +21,12 @@ mod replay;
 mod row;
 mod setting;
 mod shows;
-mod tally;
 mod told;
 mod vector;
 mod write;
 
 use compare::engine::Engine;
+use compare::tally::ended;
 use std::env;
 use std::path::Path;
 use std::process::ExitCode;
@@ -46,16 +44,7 @@ fn main() -> ExitCode {
         }
         _ => Err(USAGE.to_string()),
     };
-    match tally {
-        Ok(tally) => {
-            println!("{} passed, {} failed", tally.passed, tally.failed);
-            ExitCode::from(u8::from(tally.failed > 0))
-        }
-        Err(error) => {
-            eprintln!("vectors: {error}");
-            ExitCode::FAILURE
-        }
-    }
+    ended("vectors", tally)
 }
 
 const USAGE: &str = "usage: vectors write|replay DIRECTORY DRIVER [ARGUMENT...]";

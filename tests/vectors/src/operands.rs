@@ -3,7 +3,7 @@
 use crate::background::Background;
 use crate::code::{Code, Format, Input};
 use crate::setting::Setting;
-use interpreter::State;
+use interpreter::{place, State};
 
 /// Bytes that are no border.
 const BYTES: [u16; 14] = [
@@ -46,17 +46,6 @@ pub struct Operands {
     pub g: Option<u8>,
 }
 
-/// Where the register file holds a designator.
-pub fn place(designator: u8, g: u8) -> usize {
-    let (designator, g) = (usize::from(designator), usize::from(g));
-    match designator {
-        // GC-GF are RC-RF.
-        0 | 1 if g >= 6 => 10 + 2 * g + designator,
-        0 | 1 => 2 * g + designator,
-        _ => 10 + designator,
-    }
-}
-
 impl Operands {
     /// The setting of one attempt.
     pub fn setting(&self, code: &Code, background: Background) -> Setting {
@@ -81,7 +70,7 @@ impl Operands {
 
     /// Puts the operands in their registers.
     fn fill(&self, code: &Code, state: &mut State) {
-        let (a, b) = (place(self.a, state.g), place(self.b & 15, state.g));
+        let (a, b) = (place(self.a, state.g), place(self.b, state.g));
         let mut put = |at: usize, value: u16| state.registers[at] = value as u8;
         match (code.format, self.p) {
             (Format::Address, Some(p)) => {

@@ -1,22 +1,14 @@
 //! A setting in the language of `examples/make`.
 
 use crate::code::{Code, Format};
-use crate::fields::{other_fields, register_fields, Field, NONE};
-use crate::flags;
-use crate::operands::place;
 use crate::row::{Asked, Part, Row, LRA, LTA, LTSR};
-use crate::setting::{Sample, Setting, BUSY, COMPUTE, ELSEWHERE, ICS, REPLY, RESET};
-use compare::listing;
-use interpreter::State;
-
-/// The lines of a sample in the order that they are written.
-const LINES: [(u8, &str); 5] = [
-    (COMPUTE, "COMPUTE"),
-    (REPLY, "REPLY"),
-    (BUSY, "BUSY"),
-    (RESET, "RESET"),
-    (ICS, "ICS"),
-];
+use crate::setting::{Sample, Setting};
+use compare::deck::ELSEWHERE;
+use compare::describe::instruction;
+use compare::fields::{other_fields, register_fields, Field, NONE};
+use compare::flags;
+use compare::lines;
+use interpreter::{place, State};
 
 /// The sections, one line to an item.
 pub fn text(code: &Code, setting: &Setting) -> String {
@@ -72,22 +64,6 @@ pub fn runs<T: PartialEq>(items: &[T]) -> Vec<&[T]> {
     runs
 }
 
-/// A word's mnemonic and fields.
-fn instruction(word: u32) -> String {
-    let top = (word >> 8) as u8;
-    let name = listing::mnemonic(top).unwrap_or("unlisted");
-    let fields = match top {
-        0x00..=0x07 => format!(" {:03X}", word & 0x7FF),
-        0x08..=0x0F => String::new(),
-        0x10..=0x1F => format!(" {:02X}", word & 0xFF),
-        0x20..=0x6F => format!(" literal {:02X}, a {:X}", word >> 4 & 0xFF, word & 15),
-        _ => format!(" b {:X}, a {:X}", word >> 4 & 15, word & 15),
-    };
-    let bits = (16..22).filter(|bit| word >> bit & 1 == 1);
-    let bits: String = bits.map(|bit| format!(", bit {bit}")).collect();
-    format!("{name}{fields}{bits}")
-}
-
 /// What a row asks for, then each line that it raises before what it gives with it.
 fn row(row: &Row) -> String {
     let mut parts: Vec<String> = Part::ALL
@@ -135,7 +111,7 @@ fn asked(part: Part, asked: Asked) -> Vec<String> {
 /// What the word works on first, then the rest that is not 0.
 fn state(code: &Code, setting: &Setting) -> Vec<String> {
     let state = &setting.state;
-    let registers = register_fields(state);
+    let registers = register_fields(&state.to_bytes());
     let mut rest: Vec<usize> = (0..registers.len()).collect();
     let mut lines = Vec::new();
     for (label, places) in designated(code, setting) {
@@ -169,7 +145,7 @@ fn pairs(fields: Vec<&Field>) -> String {
 /// G, LC and the others that are not 0, then the flags that are 1.
 fn remaining(state: &State) -> Vec<String> {
     let zero = |value: &str| value.chars().all(|digit| digit == '0');
-    let mut fields = other_fields(state);
+    let mut fields = other_fields(&state.to_bytes());
     fields.retain(|(name, value)| match name.as_str() {
         "modification" => value != NONE,
         _ => !zero(value),
@@ -187,8 +163,8 @@ fn remaining(state: &State) -> Vec<String> {
 /// The registers that the word names, as far as its code looks at them.
 fn designated(code: &Code, setting: &Setting) -> Vec<(String, Vec<usize>)> {
     let (word, g) = (setting.word(), setting.state.g);
-    let a = place(word as u8 & 15, g);
-    let b = place((word >> 4) as u8 & 15, g);
+    let a = place(word as u8, g);
+    let b = place((word >> 4) as u8, g);
     let named = |label: &str, places: &[usize]| (label.to_string(), places.to_vec());
     match code.format {
         Format::Control if !matches!(code.mnemonic, "CCF" | "LGL") => Vec::new(),
@@ -210,8 +186,8 @@ fn designated(code: &Code, setting: &Setting) -> Vec<(String, Vec<usize>)> {
 
 /// The lines that are high, and the data.
 fn sample(sample: &Sample) -> String {
-    let lines = LINES.iter().filter(|(bit, _)| sample.lines & bit != 0);
-    let mut parts: Vec<String> = lines.map(|(_, name)| name.to_string()).collect();
+    let high = lines::names(sample.lines).into_iter();
+    let mut parts: Vec<String> = high.map(str::to_string).collect();
     let interrupts = (0..4).filter(|at| sample.interrupts >> at & 1 == 1);
     parts.extend(interrupts.map(|at| format!("I{at}")));
     if sample.data != 0 {

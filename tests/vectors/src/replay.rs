@@ -1,10 +1,11 @@
 //! The bytes of the texts through the engine and the interpreter.
 
 use crate::bytes::{self, Bytes};
-use crate::tally::Tally;
 use compare::call::{Call, Left};
-use compare::describe::differences;
+use compare::deck::Sections;
+use compare::describe::wrong;
 use compare::engine::Engine;
+use compare::tally::Tally;
 use interpreter::Report;
 use std::fs;
 use std::path::{Path, PathBuf};
@@ -27,13 +28,11 @@ pub fn all(directory: &Path, engine: &Engine) -> Result<Tally, String> {
         return Err(format!("{}: no vectors", directory.display()));
     }
     let calls: Vec<Call> = vectors.iter().map(|own| own.call.clone()).collect();
-    let answers = engine.run(&calls).map_err(|error| error.to_string())?;
-    let by_engine: Vec<Left> = answers.into_iter().map(|answer| answer.left).collect();
-    let by_interpreter: Vec<Left> = calls.iter().map(Call::interpreted).collect();
     let mut tally = Tally::default();
-    for (side, lefts) in [("engine", by_engine), ("interpreter", by_interpreter)] {
+    for (side, lefts) in engine.both(&calls).map_err(|error| error.to_string())? {
         for (at, own) in vectors.iter().enumerate() {
-            tally.check(wrong(own, side, lefts.get(at)));
+            let wrong = wrong(&own.expected, lefts.get(at));
+            tally.check(wrong.map(|wrong| format!("{}, {side}: {wrong}", own.title)));
         }
     }
     Ok(tally)
@@ -76,7 +75,7 @@ fn replayed(title: String, bytes: Bytes) -> Option<Replayed> {
         attempts: number(1)?,
         microcycles: number(2)?,
     };
-    let samples = compare::deck::Sections::of(&bytes.deck)?.samples.len();
+    let samples = Sections::of(&bytes.deck)?.samples.len();
     let call = Call::patterned(bytes.deck, samples + 4, 41);
     let mut requests = call.requests.clone();
     requests
@@ -94,14 +93,4 @@ fn replayed(title: String, bytes: Bytes) -> Option<Replayed> {
         call,
         expected,
     })
-}
-
-/// How one side differs from what the text says, if it does.
-fn wrong(own: &Replayed, side: &str, left: Option<&Left>) -> Option<String> {
-    let differences = match left {
-        Some(left) if *left == own.expected => return None,
-        Some(left) => differences(&own.expected, left).join("; "),
-        None => "no answer".to_string(),
-    };
-    Some(format!("{}, {side}: {differences}", own.title))
 }

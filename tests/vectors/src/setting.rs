@@ -2,11 +2,8 @@
 
 use crate::row::Row;
 use compare::call::{Call, Left};
-use compare::deck::Sections;
+use compare::deck::{words_to, Sections};
 use interpreter::State;
-
-/// An unlisted word, wherever the vector's own words do not lie: it must not be executed.
-pub const ELSEWHERE: u32 = 0x7800;
 
 /// Bit 16 of a word.
 pub const LOAD_RR: u32 = 1 << 16;
@@ -14,17 +11,6 @@ pub const LOAD_RR: u32 = 1 << 16;
 pub const RNI: u32 = 1 << 17;
 /// Bits 18-21.
 pub const OUTPUTS: u32 = 15 << 18;
-
-/// The lines of a sample: REPLY.
-pub const REPLY: u8 = 1;
-/// BUSY.
-pub const BUSY: u8 = 2;
-/// COMPUTE.
-pub const COMPUTE: u8 = 4;
-/// RESET.
-pub const RESET: u8 = 8;
-/// ICS.
-pub const ICS: u8 = 16;
 
 /// A sample.
 #[derive(Clone, Copy)]
@@ -67,10 +53,8 @@ pub struct Setting {
 impl Setting {
     /// One word at the state's LC, and one sample.
     pub fn single(word: u32, state: State, sample: Sample) -> Self {
-        let mut words = vec![ELSEWHERE; usize::from(state.lc)];
-        words.push(word);
         Self {
-            words,
+            words: words_to(state.lc, word),
             rows: Vec::new(),
             state,
             samples: vec![sample],
@@ -79,9 +63,7 @@ impl Setting {
 
     /// The setting with its word at another address.
     pub fn at(mut self, lc: u16) -> Self {
-        let word = self.stored();
-        self.words = vec![ELSEWHERE; usize::from(lc)];
-        self.words.push(word);
+        self.words = words_to(lc, self.stored());
         self.state.lc = lc;
         self
     }

@@ -2,8 +2,8 @@
 
 use crate::code::Code;
 use crate::code::Format::{Address, Literal, Word, WordFromB};
-use crate::flags;
 use crate::operands::Operands;
+use compare::flags;
 
 /// The operands by name and value.
 pub fn written(code: &Code, operands: &Operands) -> String {

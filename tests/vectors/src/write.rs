@@ -2,12 +2,12 @@
 
 use crate::code::{self, Code};
 use crate::draft::Draft;
-use crate::tally::Tally;
 use crate::vector::Vector;
 use crate::{check, choose, file, further};
 use compare::call::{Call, Left};
-use compare::describe::differences;
+use compare::describe::wrong;
 use compare::engine::Engine;
+use compare::tally::Tally;
 use std::fs;
 use std::path::Path;
 
@@ -41,12 +41,9 @@ pub fn all(directory: &Path, engine: &Engine) -> Result<Tally, String> {
 
 /// The vector of a draft; engine and interpreter must leave the same behind in every byte.
 fn agreed(tally: &mut Tally, code: &Code, draft: Draft, call: &Call, left: Left) -> Vector {
-    let expected = call.interpreted();
-    tally.check((left != expected).then(|| {
-        let what = differences(&expected, &left).join("; ");
-        let name = &draft.name;
-        format!("{} {name}: interpreter against engine: {what}", code.key)
-    }));
+    let wrong = wrong(&call.interpreted(), Some(&left));
+    let title = format!("{} {}", code.key, draft.name);
+    tally.check(wrong.map(|wrong| format!("{title}: interpreter against engine: {wrong}")));
     Vector { draft, left }
 }
 

@@ -1,9 +1,10 @@
 //! Codes on Rb:Ra: MI, LTR and the accesses; and waiting, which inputs share.
 
-use crate::code::{Code, Waits};
+use crate::code::Code;
 use crate::draft::{high, low, Claim, Draft};
 use crate::operands::Operands;
-use crate::setting::{BUSY, REPLY};
+use compare::lines::{BUSY, REPLY};
+use compare::listing::Waits;
 
 /// LL of 00 to R2.
 const LOAD: u32 = 0x6002;

@@ -6,7 +6,8 @@ use crate::background::Background::{High, Low};
 use crate::code::Code;
 use crate::draft::{Claim, Draft};
 use crate::row::{Part, Row};
-use crate::setting::{Setting, COMPUTE, LOAD_RR, OUTPUTS, RESET, RNI};
+use crate::setting::{Setting, LOAD_RR, OUTPUTS, RNI};
+use compare::lines::{COMPUTE, RESET};
 
 /// NOP.
 pub fn nothing(code: &Code) -> Vec<Draft> {

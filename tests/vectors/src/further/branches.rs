@@ -4,9 +4,9 @@ use super::jumps::{at, leading};
 use crate::background::Background::{High, Low};
 use crate::code::Code;
 use crate::draft::{Claim, Draft};
-use crate::flags;
 use crate::meaning::tested;
 use crate::setting::{Setting, LOAD_RR};
+use compare::flags;
 
 /// The target within its page, and an address besides the page's end.
 const TARGET: u32 = 0x34;

@@ -4,9 +4,10 @@ use super::rows;
 use crate::background::Background::{self, High, Low};
 use crate::code::Code;
 use crate::draft::{low, Claim, Draft};
-use crate::operands::{place, Operands};
+use crate::operands::Operands;
 use crate::row::Row;
 use crate::setting::Setting;
+use interpreter::place;
 
 /// The code's word with these designators.
 pub fn word(code: &Code, b: u8, a: u8, background: Background) -> Setting {

@@ -2,7 +2,8 @@
 
 use crate::code::{self, Code, Format};
 use crate::draft::{low, Draft};
-use crate::operands::{borders, middling, place, Operands};
+use crate::operands::{borders, middling, Operands};
+use interpreter::place;
 
 /// What a draft needs of the operands and the result's low and high byte.
 type Needs = fn(&Code, &Operands, [u8; 2]) -> bool;

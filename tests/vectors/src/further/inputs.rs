@@ -4,7 +4,8 @@ use super::address::waits;
 use crate::code::{Code, Format};
 use crate::draft::{low, Claim, Draft};
 use crate::operands::Operands;
-use crate::setting::{Setting, ICS};
+use crate::setting::Setting;
+use compare::lines::ICS;
 
 /// Drafts for an input code.
 pub fn drafts(code: &Code, ordinary: &Operands) -> Vec<Draft> {

@@ -2,8 +2,9 @@
 
 use crate::code::{Code, Format};
 use crate::draft::{high, low, Claim, Draft};
-use crate::operands::{place, Operands};
-use compare::describe::registers;
+use crate::operands::Operands;
+use compare::fields::registers;
+use interpreter::place;
 
 /// The same operands with what the code reads the other way.
 pub fn input(code: &Code, ordinary: &Operands) -> Option<Draft> {

@@ -3,15 +3,16 @@
 #![forbid(unsafe_code)]
 
 mod cases;
-mod tally;
+mod seen;
 
 use cases::Case;
 use compare::call::Call;
 use compare::difference::explain;
 use compare::engine::Engine;
+use compare::tally::{ended, Tally};
+use seen::Seen;
 use std::process::ExitCode;
 use std::{env, io};
-use tally::Tally;
 
 /// Cases in one process of the driver.
 const BATCH: usize = 4000;
@@ -27,25 +28,18 @@ fn main() -> ExitCode {
             return ExitCode::FAILURE;
         }
     };
-    match compare_all(&Engine::new(command), seed) {
-        Ok(0) => ExitCode::SUCCESS,
-        Ok(_) => ExitCode::FAILURE,
-        Err(error) => {
-            eprintln!("compare: {error}");
-            ExitCode::FAILURE
-        }
-    }
+    ended("compare", compare_all(&Engine::new(command), seed))
 }
 
-/// Runs every case and prints the counts; gives the number of failures.
-fn compare_all(engine: &Engine, seed: u32) -> io::Result<usize> {
+/// Runs every case and tells what they showed.
+fn compare_all(engine: &Engine, seed: u32) -> io::Result<Tally> {
     let [decks, singles] = [cases::decks(seed).count(), cases::singles(seed).count()];
     println!("seed {seed}: {decks} decks, {singles} single attempts");
-    let (mut tally, mut different) = (Tally::new(), Vec::new());
+    let (mut seen, mut different) = (Seen::new(), Vec::new());
     let mut cases = cases::decks(seed).chain(cases::singles(seed));
     loop {
         let batch: Vec<Case> = cases.by_ref().take(BATCH).collect();
-        if batch.is_empty() || !compare_batch(engine, &batch, &mut tally, &mut different)? {
+        if batch.is_empty() || !compare_batch(engine, &batch, &mut seen, &mut different)? {
             break;
         }
     }
@@ -53,19 +47,20 @@ fn compare_all(engine: &Engine, seed: u32) -> io::Result<usize> {
         let difference = explain(engine, &case.call())?;
         println!("first difference: {case}\n  {difference}");
     }
-    let missing = tally.missing();
+    let missing = seen.missing();
     missing.iter().for_each(|what| println!("missing: {what}"));
-    tally.print();
-    let failed = different.len() + missing.len();
-    println!("{} passed, {failed} failed", tally.passed);
-    Ok(failed)
+    seen.print();
+    Ok(Tally {
+        passed: seen.passed,
+        failed: different.len() + missing.len(),
+    })
 }
 
 /// Compares a batch; false when the driver died, which ends the comparison.
 fn compare_batch(
     engine: &Engine,
     batch: &[Case],
-    tally: &mut Tally,
+    seen: &mut Seen,
     different: &mut Vec<Case>,
 ) -> io::Result<bool> {
     let calls: Vec<Call> = batch.iter().map(Case::call).collect();
@@ -73,7 +68,7 @@ fn compare_batch(
     for (at, (case, call)) in batch.iter().zip(&calls).enumerate() {
         let expected = call.interpreted();
         match answers.get(at) {
-            Some(answer) if answer.left == expected => tally.count(call, &expected),
+            Some(answer) if answer.left == expected => seen.count(call, &expected),
             _ => different.push(*case),
         }
     }

@@ -1,6 +1,7 @@
 //! Sets of flags, as bits of the flag byte.
 
-use compare::describe::FLAGS;
+/// The flags, high to low.
+const FLAGS: [&str; 8] = ["N", "Z", "V", "C", "NB", "ZB", "C4", "C8"];
 
 /// All eight.
 pub const ALL: u8 = 0xFF;

@@ -1,5 +1,8 @@
 //! Checks counted, and failures told.
 
+use std::fmt::Display;
+use std::process::ExitCode;
+
 /// Failures that are told; the rest are counted.
 const TOLD: usize = 25;
 
@@ -23,6 +26,20 @@ impl Tally {
                     println!("{line}");
                 }
             }
+        }
+    }
+}
+
+/// Prints a program's counts, or why it has none, and gives its status.
+pub fn ended(program: &str, result: Result<Tally, impl Display>) -> ExitCode {
+    match result {
+        Ok(tally) => {
+            println!("{} passed, {} failed", tally.passed, tally.failed);
+            ExitCode::from(u8::from(tally.failed > 0))
+        }
+        Err(error) => {
+            eprintln!("{program}: {error}");
+            ExitCode::FAILURE
         }
     }
 }

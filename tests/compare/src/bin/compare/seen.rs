@@ -2,17 +2,17 @@
 
 use compare::call::{Call, Left};
 use compare::deck::Sections;
-use compare::describe::KINDS;
+use compare::describe::{KINDS, WAIT};
 use compare::difference::word;
-use compare::listing;
+use compare::listing::{self, Waits};
 
 /// Listed instructions, CAD among them.
 const LISTED: usize = 150;
 
 /// Counts over the cases in which engine and interpreter agree.
-pub struct Tally {
+pub struct Seen {
     /// Cases in which they agree.
-    pub passed: u64,
+    pub passed: usize,
     /// Attempts of these cases.
     attempts: u64,
     answers: [u64; 10],
@@ -23,7 +23,7 @@ pub struct Tally {
     waited: [u64; 256],
 }
 
-impl Tally {
+impl Seen {
     /// Nothing yet.
     pub fn new() -> Self {
         Self {
@@ -52,7 +52,7 @@ impl Tally {
                 left.report.answer,
                 left.request(0).map(|request| request >> 16),
             ) {
-                (0, Some(10)) => self.waited[top] += 1,
+                (0, Some(WAIT)) => self.waited[top] += 1,
                 (0, _) => self.completed[top] += 1,
                 _ => {}
             }
@@ -86,7 +86,7 @@ impl Tally {
         let answers = answers.map(|at| format!("answer {at} never came"));
         let kinds = (0..13).filter(|&at| self.kinds[at] == 0);
         let kinds = kinds.map(|at| format!("no {} request", KINDS[at]));
-        let waits = (0..=255).filter(|&top| listing::waits(top));
+        let waits = (0..=255).filter(|&top| listing::waits(top) != Waits::Never);
         let waits = waits.filter(|&top| self.waited[usize::from(top)] == 0);
         let waits = waits.map(|top| format!("{top:02X} never waited"));
         let listed = listing::keys();
