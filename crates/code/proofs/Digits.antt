@@ -4,10 +4,9 @@ use mathlib.Core.Path.{_≡_, refl, _∙_, sym}
 use mathlib.Core.List.{List, [], _∷_}
 use lib.Dec.{T}
 use lib.ListN.{getD}
-use Rattle.choose.specs.Ranged.{bit, ranged}
+use Rattle.choose.specs.Ranged.{ranged}
 use Rattle.choose.specs.Below.{allEqual}
 use Rattle.choose.proofs.Table.{all-equal, at}
-use Rattle.choose.proofs.Tests.{is-bit}
 use Rattle.code.specs.CodeRows.{classNumber, rowOf, classOf, cyclesOf, pairsOf, waitsOf, optionsOf, statusFlagsOf, conditionFlagsOf, storesOf}
 use Rattle.code.specs.Entries.{classAt, rowOfEntry, entries}
 use Rattle.code.specs.Word.{codeOf}
@@ -23,7 +22,7 @@ digits r n =
     (n / 0x1000 % 0x10, r .waits) ∷
     (n / 0x1_0000 % 0x10, r .options) ∷
     (n / 0x10_0000 % 0x100, r .flags) ∷
-    (n / 0x1000_0000, bit (r .stores)) ∷
+    (n / 0x1000_0000 % 0x10, r .stores) ∷
     []
 
 pub numbered : (k : Class) → classAt (classNumber k) ≡ k
@@ -38,7 +37,7 @@ by-digits : (r : CodeRow) (n : ℕ) → T (allEqual (digits r n)) → rowOfEntry
 unfolding rowOfEntry
 by-digits r n t =
     let e = all-equal (digits r n) t in
-    rw (e .0, numbered, e .1 .0, e .1 .1 .0, e .1 .1 .1 .0, e .1 .1 .1 .1 .0, e .1 .1 .1 .1 .1 .0, e .1 .1 .1 .1 .1 .1 .0, is-bit (r .stores) _ refl)
+    rw (e .0, numbered, e .1 .0, e .1 .1 .0, e .1 .1 .1 .0, e .1 .1 .1 .1 .0, e .1 .1 .1 .1 .1 .0, e .1 .1 .1 .1 .1 .1 .0)
 
 -- what a reader of the table gets
 pub row-at : (top : ℕ) → top < 0x100 → rowOfEntry (getD entries top 0) ≡ rowOf top

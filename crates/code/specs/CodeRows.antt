@@ -3,7 +3,7 @@ use Prim.Native.Nat.{ℕ, _+_, _*_, _/_, _%_}
 use mathlib.Core.Bool.{Bool, true, false, _||_}
 use mathlib.Core.List.{List, [], _∷_}
 use lib.Dec.{eqb}
-use Rattle.choose.specs.Ranged.{bit, pick, ranged}
+use Rattle.choose.specs.Ranged.{pick, ranged}
 use Rattle.code.specs.declared.Class.{Class}
 use Rattle.code.specs.declared.CodeRow.{CodeRow}
 
@@ -108,32 +108,34 @@ conditionFlagsOf top =
     [])
     0
 
--- whether a register is written: "Compare and test write no register", nor do jumps, lines, interrupts and loads of G, TR, TSR or flags
-unfoldable pub storesOf : ℕ → Bool
+-- the registers that are written. 0: none, "Compare and test write no register", nor do jumps, lines, interrupts and loads of G, TR, TSR or flags;
+-- 1: Ra; 2: "A pair is Ra (low) and Ra+1"; 3: Ra and Rb, "F0-F7: Ra gains 1 or 2; the word codes then add the carry to Rb"
+unfoldable pub storesOf : ℕ → ℕ
 storesOf top =
     ranged top
-    ((0x20, false) ∷
-    (0x30, true) ∷  -- AL
-    (0x40, false) ∷
-    (0x50, true) ∷  -- NL
-    (0x60, false) ∷
-    (0x70, true) ∷  -- LL
-    (0x72, false) ∷
-    (0x73, true) ∷  -- CCF
-    (0x76, false) ∷
-    (0xB4, true) ∷  -- CIB, CDB, moves to subtracts
-    (0xB8, false) ∷  -- CB, CW
-    (0xC4, true) ∷
-    (0xC8, false) ∷  -- TB, TW
-    (0xE8, true) ∷
-    (0xF0, false) ∷
-    (0xF8, true) ∷  -- reads and writes that increment
+    ((0x20, 0) ∷
+    (0x30, 1) ∷  -- AL
+    (0x40, 0) ∷
+    (0x50, 1) ∷  -- NL
+    (0x60, 0) ∷
+    (0x70, 1) ∷  -- LL
+    (0x72, 0) ∷
+    (0x73, 1) ∷  -- CCF
+    (0x76, 0) ∷
+    (0x80, 1) ∷  -- CIB, CDB
+    (0xB4, 1 + wordBit top) ∷  -- moves to subtracts
+    (0xB8, 0) ∷  -- CB, CW
+    (0xC4, 1 + wordBit top) ∷
+    (0xC8, 0) ∷  -- TB, TW
+    (0xE8, 1 + wordBit top) ∷
+    (0xF0, 0) ∷
+    (0xF8, 1 + 2 * wordBit top) ∷  -- reads and writes that increment
     [])
-    false
+    0
 
 -- the row of an unlisted top byte
 abbrev pub blank : CodeRow
-blank = record { class = Class.Unlisted; cycles = 0; pairs = 0; waits = 0; options = 0; flags = 0; stores = false }
+blank = record { class = Class.Unlisted; cycles = 0; pairs = 0; waits = 0; options = 0; flags = 0; stores = 0 }
 
 unfoldable pub rowOf : ℕ → CodeRow
 rowOf top =

@@ -1,8 +1,7 @@
 -- How the constant table holds the rows: a number for each top byte. This is the code's way only; `row-at` says that nothing is lost by it.
 use Prim.Native.Nat.{ℕ, _+_, _*_, _/_, _%_}
 use mathlib.Core.List.{List, [], _∷_}
-use lib.Dec.{eqb}
-use Rattle.choose.specs.Ranged.{bit, ranged}
+use Rattle.choose.specs.Ranged.{ranged}
 use Rattle.choose.specs.Below.{firsts}
 use Rattle.code.specs.CodeRows.{classNumber, rowOf}
 use Rattle.code.specs.declared.Class.{Class}
@@ -16,7 +15,7 @@ classAt n = ranged n ((1, Class.Unlisted) ∷ (2, Class.Jump) ∷ (3, Class.Cond
 abbrev pub entryOf : CodeRow → ℕ
 entryOf r =
     classNumber (r .class) + 0x10 * r .cycles + 0x100 * r .pairs + 0x1000 * r .waits + 0x1_0000 * r .options + 0x10_0000 * r .flags +
-    0x1000_0000 * bit (r .stores)
+    0x1000_0000 * r .stores
 
 -- the rows of all 256 top bytes as numbers
 unfoldable pub entries : List ℕ
@@ -32,5 +31,5 @@ rowOfEntry n =
       waits = n / 0x1000 % 0x10;
       options = n / 0x1_0000 % 0x10;
       flags = n / 0x10_0000 % 0x100;
-      stores = eqb (n / 0x1000_0000) 1;
+      stores = n / 0x1000_0000 % 0x10;
     }

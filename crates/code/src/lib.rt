@@ -30,8 +30,8 @@ pub struct CodeRow {
     pub options: u8,
     // The flags that it may write, as bits of the flag byte N Z V C NB ZB C4 C8.
     pub flags: u8,
-    // Whether it writes a register.
-    pub stores: bool,
+    // The registers that it writes. 0: none; 1: Ra; 2: Ra and Ra+1; 3: Ra and Rb.
+    pub stores: u8,
 }
 
 // What stands in the places of the format: an address, a literal with a register, or two designators.
@@ -116,7 +116,7 @@ pub fn row_in(rows: &[u32; 256], top: u8) -> CodeRow
         waits: (n / 0x1000 % 0x10) as u8,
         options: (n / 0x1_0000 % 0x10) as u8,
         flags: (n / 0x10_0000 % 0x100) as u8,
-        stores: n / 0x1000_0000 == 1,
+        stores: (n / 0x1000_0000 % 0x10) as u8,
     }
 }
 

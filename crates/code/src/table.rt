@@ -1,5 +1,5 @@
 // One row for each of the 256 top bytes. The digits of a row, from the left:
-//   1 where it writes a register;
+//   1 where it writes Ra, 2 Ra and Ra+1, 3 Ra and Rb;
 //   the flags that it may write, two digits for N Z V C NB ZB C4 C8;
 //   the highest b that is listed;
 //   1 where it waits while REPLY or BUSY is high, 2 where it waits while REPLY is low;
@@ -137,108 +137,108 @@ pub const ROWS: [u32; 256] = [
     0x0_00_0_0_0_0_0, // 7F unlisted
     0x1_0C_F_0_0_1_4, // 80 MB
     0x1_EC_F_0_0_1_4, // 81 MB
-    0x1_0C_F_0_3_2_4, // 82 MW
-    0x1_EC_F_0_3_2_4, // 83 MW
+    0x2_0C_F_0_3_2_4, // 82 MW
+    0x2_EC_F_0_3_2_4, // 83 MW
     0x1_0C_F_0_0_1_4, // 84 CMB
     0x1_EC_F_0_0_1_4, // 85 CMB
-    0x1_0C_F_0_3_2_4, // 86 CMW
-    0x1_EC_F_0_3_2_4, // 87 CMW
+    0x2_0C_F_0_3_2_4, // 86 CMW
+    0x2_EC_F_0_3_2_4, // 87 CMW
     0x1_0F_F_0_0_1_4, // 88 SLBC
     0x1_FF_F_0_0_1_4, // 89 SLBC
-    0x1_0F_F_0_3_2_4, // 8A SLWC
-    0x1_FF_F_0_3_2_4, // 8B SLWC
+    0x2_0F_F_0_3_2_4, // 8A SLWC
+    0x2_FF_F_0_3_2_4, // 8B SLWC
     0x1_0F_F_0_0_1_4, // 8C SLB
     0x1_FF_F_0_0_1_4, // 8D SLB
-    0x1_0F_F_0_3_2_4, // 8E SLW
-    0x1_FF_F_0_3_2_4, // 8F SLW
+    0x2_0F_F_0_3_2_4, // 8E SLW
+    0x2_FF_F_0_3_2_4, // 8F SLW
     0x1_0F_F_0_0_1_4, // 90 ICB1
     0x1_FF_F_0_0_1_4, // 91 ICB1
-    0x1_0F_F_0_3_2_4, // 92 ICW1
-    0x1_FF_F_0_3_2_4, // 93 ICW1
+    0x2_0F_F_0_3_2_4, // 92 ICW1
+    0x2_FF_F_0_3_2_4, // 93 ICW1
     0x1_0F_F_0_0_1_4, // 94 ICB2
     0x1_FF_F_0_0_1_4, // 95 ICB2
-    0x1_0F_F_0_3_2_4, // 96 ICW2
-    0x1_FF_F_0_3_2_4, // 97 ICW2
+    0x2_0F_F_0_3_2_4, // 96 ICW2
+    0x2_FF_F_0_3_2_4, // 97 ICW2
     0x1_0F_F_0_0_1_4, // 98 TCB
     0x1_FF_F_0_0_1_4, // 99 TCB
-    0x1_0F_F_0_3_2_4, // 9A TCW
-    0x1_FF_F_0_3_2_4, // 9B TCW
+    0x2_0F_F_0_3_2_4, // 9A TCW
+    0x2_FF_F_0_3_2_4, // 9B TCW
     0x1_0F_F_0_0_1_4, // 9C OCB
     0x1_FF_F_0_0_1_4, // 9D OCB
-    0x1_0F_F_0_3_2_4, // 9E OCW
-    0x1_FF_F_0_3_2_4, // 9F OCW
+    0x2_0F_F_0_3_2_4, // 9E OCW
+    0x2_FF_F_0_3_2_4, // 9F OCW
     0x1_0F_F_0_0_1_4, // A0 AB
     0x1_FF_F_0_0_1_4, // A1 AB
-    0x1_0F_F_0_3_2_4, // A2 AW
-    0x1_FF_F_0_3_2_4, // A3 AW
+    0x2_0F_F_0_3_2_4, // A2 AW
+    0x2_FF_F_0_3_2_4, // A3 AW
     0x1_0F_F_0_0_1_4, // A4 CAB
     0x1_FF_F_0_0_1_4, // A5 CAB
-    0x1_0F_F_0_3_2_4, // A6 CAW
-    0x1_FF_F_0_3_2_4, // A7 CAW
+    0x2_0F_F_0_3_2_4, // A6 CAW
+    0x2_FF_F_0_3_2_4, // A7 CAW
     0x1_0F_F_0_0_1_4, // A8 ABC
     0x1_FF_F_0_0_1_4, // A9 ABC
-    0x1_0F_F_0_3_2_4, // AA AWC
-    0x1_FF_F_0_3_2_4, // AB AWC
+    0x2_0F_F_0_3_2_4, // AA AWC
+    0x2_FF_F_0_3_2_4, // AB AWC
     0x1_0F_F_0_0_1_4, // AC CAD
     0x0_00_0_0_0_0_0, // AD unlisted
-    0x1_0F_F_0_3_2_4, // AE CAWI
-    0x1_FF_F_0_3_2_4, // AF CAWI
+    0x2_0F_F_0_3_2_4, // AE CAWI
+    0x2_FF_F_0_3_2_4, // AF CAWI
     0x1_0F_F_0_0_1_4, // B0 SB
     0x1_FF_F_0_0_1_4, // B1 SB
-    0x1_0F_F_0_3_2_4, // B2 SW
-    0x1_FF_F_0_3_2_4, // B3 SW
+    0x2_0F_F_0_3_2_4, // B2 SW
+    0x2_FF_F_0_3_2_4, // B3 SW
     0x0_0F_F_0_0_1_4, // B4 CB
     0x0_FF_F_0_0_1_4, // B5 CB
     0x0_0F_F_0_3_2_4, // B6 CW
     0x0_FF_F_0_3_2_4, // B7 CW
     0x1_0F_F_0_0_1_4, // B8 SBC
     0x1_FF_F_0_0_1_4, // B9 SBC
-    0x1_0F_F_0_3_2_4, // BA SWC
-    0x1_FF_F_0_3_2_4, // BB SWC
+    0x2_0F_F_0_3_2_4, // BA SWC
+    0x2_FF_F_0_3_2_4, // BB SWC
     0x1_0F_F_0_0_1_4, // BC DB1
     0x1_FF_F_0_0_1_4, // BD DB1
-    0x1_0F_F_0_3_2_4, // BE DW1
-    0x1_FF_F_0_3_2_4, // BF DW1
+    0x2_0F_F_0_3_2_4, // BE DW1
+    0x2_FF_F_0_3_2_4, // BF DW1
     0x1_0C_F_0_0_1_4, // C0 NB
     0x1_EC_F_0_0_1_4, // C1 NB
-    0x1_0C_F_0_3_2_4, // C2 NW
-    0x1_EC_F_0_3_2_4, // C3 NW
+    0x2_0C_F_0_3_2_4, // C2 NW
+    0x2_EC_F_0_3_2_4, // C3 NW
     0x0_0C_F_0_0_1_4, // C4 TB
     0x0_EC_F_0_0_1_4, // C5 TB
     0x0_0C_F_0_3_2_4, // C6 TW
     0x0_EC_F_0_3_2_4, // C7 TW
     0x1_0C_F_0_0_1_4, // C8 ORB
     0x1_EC_F_0_0_1_4, // C9 ORB
-    0x1_0C_F_0_3_2_4, // CA ORW
-    0x1_EC_F_0_3_2_4, // CB ORW
+    0x2_0C_F_0_3_2_4, // CA ORW
+    0x2_EC_F_0_3_2_4, // CB ORW
     0x1_0C_F_0_0_1_4, // CC XB
     0x1_EC_F_0_0_1_4, // CD XB
-    0x1_0C_F_0_3_2_4, // CE XW
-    0x1_EC_F_0_3_2_4, // CF XW
+    0x2_0C_F_0_3_2_4, // CE XW
+    0x2_EC_F_0_3_2_4, // CF XW
     0x1_0C_F_0_0_1_4, // D0 NCB
     0x1_EC_F_0_0_1_4, // D1 NCB
-    0x1_0C_F_0_3_2_4, // D2 NCW
-    0x1_EC_F_0_3_2_4, // D3 NCW
+    0x2_0C_F_0_3_2_4, // D2 NCW
+    0x2_EC_F_0_3_2_4, // D3 NCW
     0x0_00_0_0_0_0_0, // D4 unlisted
     0x0_00_0_0_0_0_0, // D5 unlisted
     0x0_00_0_0_0_0_0, // D6 unlisted
     0x0_00_0_0_0_0_0, // D7 unlisted
     0x1_0F_F_0_0_1_4, // D8 SRBC
     0x1_FF_F_0_0_1_4, // D9 SRBC
-    0x1_0F_F_0_3_2_4, // DA SRWC
-    0x1_FF_F_0_3_2_4, // DB SRWC
+    0x2_0F_F_0_3_2_4, // DA SRWC
+    0x2_FF_F_0_3_2_4, // DB SRWC
     0x1_0F_F_0_0_1_4, // DC SRB
     0x1_FF_F_0_0_1_4, // DD SRB
-    0x1_0F_F_0_3_2_4, // DE SRW
-    0x1_FF_F_0_3_2_4, // DF SRW
+    0x2_0F_F_0_3_2_4, // DE SRW
+    0x2_FF_F_0_3_2_4, // DF SRW
     0x1_0C_7_2_0_1_4, // E0 IB
     0x1_EC_7_2_0_1_4, // E1 IB
-    0x1_0C_7_2_1_2_4, // E2 IW
-    0x1_EC_7_2_1_2_4, // E3 IW
+    0x2_0C_7_2_1_2_4, // E2 IW
+    0x2_EC_7_2_1_2_4, // E3 IW
     0x1_0C_3_0_0_1_4, // E4 ISB
     0x1_EC_3_0_0_1_4, // E5 ISB
-    0x1_0C_F_0_1_2_4, // E6 ISW
-    0x1_EC_F_0_1_2_4, // E7 ISW
+    0x2_0C_F_0_1_2_4, // E6 ISW
+    0x2_EC_F_0_1_2_4, // E7 ISW
     0x0_00_0_0_0_0_0, // E8 unlisted
     0x0_00_0_0_0_0_0, // E9 unlisted
     0x0_00_0_0_0_0_0, // EA unlisted
@@ -249,12 +249,12 @@ pub const ROWS: [u32; 256] = [
     0x0_00_F_0_0_2_4, // EF LTR
     0x1_0F_F_1_0_1_4, // F0 RIB1
     0x1_0F_F_1_0_1_4, // F1 WIB1
-    0x1_0F_F_1_0_2_4, // F2 RIW1
-    0x1_0F_F_1_0_2_4, // F3 WIW1
+    0x3_0F_F_1_0_2_4, // F2 RIW1
+    0x3_0F_F_1_0_2_4, // F3 WIW1
     0x1_0F_F_1_0_1_4, // F4 RIB2
     0x1_0F_F_1_0_1_4, // F5 WIB2
-    0x1_0F_F_1_0_2_4, // F6 RIW2
-    0x1_0F_F_1_0_2_4, // F7 WIW2
+    0x3_0F_F_1_0_2_4, // F6 RIW2
+    0x3_0F_F_1_0_2_4, // F7 WIW2
     0x0_00_F_1_0_1_4, // F8 R
     0x0_00_F_1_0_1_4, // F9 W
     0x0_00_F_1_0_1_4, // FA RA

@@ -96,11 +96,12 @@ fn condition(set: u8) {
     flag(set, 0x10, b"C ");
 }
 
-fn stores(yes: bool) {
-    if yes {
-        say(b"yes");
-    } else {
-        say(b"no");
+fn stores(registers: u8) {
+    match registers {
+        0 => say(b"none"),
+        1 => say(b"Ra"),
+        2 => say(b"Ra and Ra+1"),
+        _ => say(b"Ra and Rb"),
     }
 }
 
@@ -228,7 +229,9 @@ fn columns() {
     say(
         b"- **Status**, **Condition**: the flags that it may write. It leaves the others as they were; a failed condition writes none.\n",
     );
-    say(b"- **Register**: whether it writes one. The others of the 26 stay as they were.\n");
+    say(
+        b"- **Registers** that it may write, by a and b of the word; a failed condition writes none. The others of the 26 stay as they were.\n",
+    );
     say(b"- **Waits** while these lines are so.\n");
     say(
         b"- **Refusals** that can come, with their cause. An attempt that fetches is refused with 5 where LC has no word.\n",
@@ -246,7 +249,7 @@ fn document(vectors: &[u8; 256]) {
     );
     columns();
     say(
-        b"\n| Key | Codes | Format | Microcycles | Status | Condition | Register | Waits | Refusals | Vectors |\n",
+        b"\n| Key | Codes | Format | Microcycles | Status | Condition | Registers | Waits | Refusals | Vectors |\n",
     );
     say(b"|---|---|---|---|---|---|---|---|---|---|\n");
     lines(true, vectors);

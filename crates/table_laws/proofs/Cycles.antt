@@ -3,19 +3,21 @@
 use Prim.Native.Nat.{ℕ}
 use mathlib.Core.Path.{_≡_, refl, _∙_}
 use mathlib.Core.Bool.{Bool, true, false, false≢true}
-use mathlib.Core.List.{List}
+use mathlib.Core.List.{List, [], _∷_}
 use native.Mathlib.Omega.{arith}
 use Rattle.alu.specs.Cycle.{cycleOf, keptOf, highFirstOf}
 use Rattle.alu.specs.Marks.{afterOf, afterByteOf, afterWordOf}
 use Rattle.alu.specs.declared.Cycle.{Cycle}
 use Rattle.alu.specs.declared.Flags.{Flags}
 use Rattle.alu.specs.declared.Kind.{Kind}
-use Rattle.choose.proofs.Choice.{pick-all}
+use Rattle.choose.proofs.Choice.{pick-all, pick-both}
+use Rattle.choose.specs.Ranged.{pick}
 use Rattle.cycles.specs.Cycles.{stepOf, oneCycleOf, oneThenOther, twoCyclesOf}
 use Rattle.cycles.specs.declared.Designators.{Designators}
 use Rattle.cycles.specs.declared.Plan.{Plan}
-use Rattle.table_laws.specs.Table.{FlagsKept, Obeys}
-use Rattle.state.specs.File.{Leaves}
+use Rattle.state.proofs.Laws.{written-length, written-other}
+use Rattle.state.specs.File.{Leaves, leaves, slotOf, writtenOf}
+use Rattle.table_laws.specs.Table.{Elsewhere, RegistersKept, FlagsKept, RestKept}
 
 -- moves and logic keep C4, C8 and C
 abbrev pub carries : Kind → Bool
@@ -80,37 +82,70 @@ after-keeps false true f y zero h =
 after-keeps false false f y zero h =
     record { n = λ e. refl; z = λ e. refl; v = λ e. refl; c = λ e. refl; nb = set; zb = set; c4 = set; c8 = set }
 
--- a plan's own columns, which its cycles obey
-abbrev pub Follows : Plan → Bool → List ℕ → Flags → Leaves Flags → Type 0
-Follows plan odd xs f m = Obeys (plan .stores) (marks (carries (plan .kind)) odd) xs (m .file) f (m .back)
+-- ---- registers
+
+module _ (g : ℕ) where
+  pub all-kept : (ds xs : List ℕ) → RegistersKept g ds xs xs
+  all-kept ds xs = record { size = refl; byte = λ i n. refl }
+
+  -- a write changes the place of its register and no other
+  pub written-kept : (d v : ℕ) (ds xs : List ℕ) → ((i : ℕ) → Elsewhere g ds i → i ≡ slotOf g d → ⊥) → RegistersKept g ds xs (writtenOf xs g d v)
+  written-kept d v ds xs among = record { size = written-length xs g d v; byte = λ i n. written-other xs g d v i (among i n) }
+
+  then-kept : {ds xs ys zs : List ℕ} → RegistersKept g ds xs ys → RegistersKept g ds ys zs → RegistersKept g ds xs zs
+  then-kept h l = record { size = l .size ∙ h .size; byte = λ i n. l .byte i n ∙ h .byte i n }
+
+-- ---- cycles
 
 module _ (g : ℕ) (f : Flags) (plan : Plan) where
+  -- those of ds, where the plan stores
+  abbrev pub storing : List ℕ → List ℕ
+  storing ds = pick (plan .stores) ds []
+
+  -- a plan's own columns, which its cycles obey
+  abbrev pub Follows : List ℕ → Bool → List ℕ → Leaves Flags → Type 0
+  Follows ds odd xs m = RestKept g (storing ds) (marks (carries (plan .kind)) odd) (leaves xs f) m
+
   -- "Compare and test write no register"
-  step-file : (xs : List ℕ) (at : Designators) (carry high : Bool) → plan .stores ≡ false → stepOf xs g f plan at carry high .file ≡ xs
+  step-kept : (xs : List ℕ) (at : Designators) (carry high : Bool) (ds : List ℕ) → ((i : ℕ) → Elsewhere g ds i → i ≡ slotOf g (at .a) → ⊥)
+      → RegistersKept g (storing ds) xs (stepOf xs g f plan at carry high .file)
   unfolding stepOf
-  step-file xs at carry high e = rw e
+  step-kept xs at carry high ds among =
+      pick-both (λ (es ys : List ℕ). RegistersKept g es xs ys) (plan .stores) _ _ _ _ (written-kept g (at .a) _ ds xs among) (all-kept g [] xs)
 
   step-carried : (xs : List ℕ) (at : Designators) (carry high : Bool) → carries (plan .kind) ≡ true → Carried f (stepOf xs g f plan at carry high .back)
   unfolding stepOf
   step-carried xs at carry high e = cycle-carried (plan .kind) _ _ carry f e
 
-  pub one-cycle : (xs : List ℕ) (at : Designators) (odd : Bool) → Follows plan odd xs f (oneCycleOf xs g f plan at odd)
+  pub one-cycle : (xs : List ℕ) (at : Designators) (odd : Bool) → Follows (at .a ∷ []) odd xs (oneCycleOf xs g f plan at odd)
   unfolding oneCycleOf afterByteOf
   one-cycle xs at odd =
       record {
-        file = step-file xs at (plan .carry) false;
+        registers = step-kept xs at (plan .carry) false (at .a ∷ []) (λ i n. n .0);
         flags = after-keeps (carries (plan .kind)) odd f _ _ (step-carried xs at (plan .carry) false);
       }
 
-  joined : (xs : List ℕ) (one other : Designators) (high odd : Bool) → Follows plan odd xs f (oneThenOther xs g f plan one other high odd)
-  unfolding afterWordOf
-  joined xs one other high odd =
-      record {
-        file = λ e. step-file _ other _ _ e ∙ step-file xs one (plan .carry) high e;
-        flags = after-keeps (carries (plan .kind)) odd f _ _ (step-carried _ other _ _);
-      }
+  module _ (low high : Designators) where
+    abbrev both : List ℕ
+    both = low .a ∷ high .a ∷ []
 
-  pub two-cycles : (xs : List ℕ) (low high : Designators) (odd : Bool) → Follows plan odd xs f (twoCyclesOf xs g f plan low high odd)
-  unfolding twoCyclesOf
-  two-cycles xs low high odd =
-      pick-all (Follows plan odd xs f) (highFirstOf (plan .kind)) _ _ (joined xs high low true odd) (joined xs low high false odd)
+    abbrev Among : Designators → Type 0
+    Among at = (i : ℕ) → Elsewhere g both i → i ≡ slotOf g (at .a) → ⊥
+
+    joined : (xs : List ℕ) (one other : Designators) → Among one → Among other → (first odd : Bool)
+        → Follows both odd xs (oneThenOther xs g f plan one other first odd)
+    unfolding afterWordOf
+    joined xs one other among also first odd =
+        record {
+          registers = then-kept g (step-kept xs one (plan .carry) first both among) (step-kept _ other _ _ both also);
+          flags = after-keeps (carries (plan .kind)) odd f _ _ (step-carried _ other _ _);
+        }
+
+    pub two-cycles : (xs : List ℕ) (odd : Bool) → Follows both odd xs (twoCyclesOf xs g f plan low high odd)
+    unfolding twoCyclesOf
+    two-cycles xs odd =
+        let is-low : Among low = λ i n. n .0 in
+        let is-high : Among high = λ i n. n .1 .0 in
+        pick-all (Follows both odd xs) (highFirstOf (plan .kind)) _ _
+        (joined xs high low is-high is-low true odd)
+        (joined xs low high is-low is-high false odd)

@@ -4,3 +4,5 @@ pub mod Rows
 pub mod Theorem
 pub mod Fates
 pub mod Set
+pub mod Registers
+pub mod Condition

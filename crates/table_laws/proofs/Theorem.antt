@@ -1,133 +1,80 @@
--- The table's columns `stores` and `flags` hold of execution: what a row doesn't mark, no executed word with its code writes.
+-- The table's columns `stores` and `flags` hold of every attempt: what the row of the word taken at LC doesn't mark, no attempt writes.
 -- Assumes nothing.
-use Prim.Native.Nat.{ℕ, _<_}
-use mathlib.Core.Path.{_≡_, refl, sym, _∙_}
-use mathlib.Core.Bool.{true, false}
+use Prim.Native.Nat.{ℕ, _*_, _/_, _%_, _<_}
+use mathlib.Core.Path.{_≡_, refl, sym}
+use mathlib.Core.Bool.{true, false, false≢true}
 use mathlib.Core.List.{List}
 use native.Mathlib.Omega.{arith}
+use lib.Seq.{ext-getD}
 use Rattle.attempt.specs.Attempt.{executedOf, resetOf, outputsOf, attemptOf}
+use Rattle.attempt.specs.declared.Outcome.{Outcome}
 use Rattle.attempt.specs.Effect.{jumpedOf, literalEffect, registerEffect, effectOf}
 use Rattle.attempt_laws.proofs.Fate.{attempt-fate}
-use Rattle.attempt_laws.specs.Fate.{Fate, refused, waited, reset, compute-low, completed, takenWord, fateOf, EndsAs}
-use Rattle.code.proofs.Digits.{row-of-code}
-use Rattle.code.proofs.Laws.{apart-well-formed, apart-code}
-use Rattle.code.proofs.Shape.{fit-listed}
-use Rattle.code.proofs.Tops.{listed-below}
-use Rattle.code.specs.CodeRows.{classOf, listed, storesOf, rowOf}
-use Rattle.code.specs.Word.{topOf, apartOf, Fit, jump, conditional, literal, register, WellFormed}
-use Rattle.code.specs.declared.Apart.{Apart}
+use Rattle.attempt_laws.specs.Fate.{Fate, refused, waited, reset, compute-low, completed, within, bIn, aIn, takenWord, fateOf, EndsAs}
+use Rattle.choose.specs.Ranged.{ranged}
+use Rattle.code.proofs.Words.{apart-is}
+use Rattle.code.specs.CodeRows.{classOf, listed, rowOf}
+use Rattle.code.specs.Word.{topOf, operandsIn, fieldsIn}
 use Rattle.code.specs.declared.Class.{Class}
-use Rattle.code.specs.declared.Fields.{Fields}
-use Rattle.code.specs.declared.Operands.{Operands}
 use Rattle.rows.specs.declared.Outputs.{Outputs}
 use Rattle.rows.specs.declared.Row.{Row}
+use Rattle.state.specs.File.{Leaves, leaves}
 use Rattle.state.specs.declared.Core.{Core}
 use Rattle.state.specs.declared.Sample.{Sample}
-use Rattle.table_laws.specs.Table.{FlagsKept, ConditionsKept, maskOf, comparesOrTests, setsConditions, Told, RowHolds}
-use Rattle.table_laws.proofs.Instructions.{untouched, literal-obeys, registers-obey}
-use Rattle.table_laws.proofs.Rows.{literal-says, registers-say, compare-row, condition-row, literal-row, cl-row, row-says}
-use Rattle.state.specs.File.{Leaves}
-use Rattle.attempt.specs.declared.Outcome.{Outcome}
-
--- ---- every executed word
-
-code-listed : (w : Fields) → WellFormed w → listed (classOf (w .code)) ≡ true
-code-listed w f = rw (f .own) at (fit-listed (f .fitting))
-
-code-below : (w : Fields) → WellFormed w → w .code < 0x100
-code-below w f = listed-below (w .code) (code-listed w f)
-
-module _ (xs : List ℕ) (k : Core) (s : Sample) where
-  literal-told : (code v a : ℕ) → code < 0x100 → classOf code ≡ Class.Literal → Told xs k code (literalEffect xs k code v a)
-  unfolding literalEffect
-  literal-told code v a h e =
-      let (stores, flags) = literal-says code v h e in
-      rw (← stores, ← flags) (literal-obeys xs (k .latches .g) (k .flags) code v a)
-
-  register-told : (code b a : ℕ) → code < 0x100 → classOf code ≡ Class.Register → Told xs k code (registerEffect xs k code b a s)
-  unfolding registerEffect
-  register-told code b a h e =
-      let (stores, flags) = registers-say code (k .flags) h e in
-      rw (← stores, ← flags) (registers-obey xs k (s .dal) code b a)
-
-  told : {c : Class} {o : Operands} (code : ℕ) → code < 0x100 → Fit c o → c ≡ classOf code → Told xs k code (effectOf xs k code o s)
-  unfolding effectOf jumpedOf
-  told code h (jump l) e = untouched _ _ xs (k .flags)
-  told code h (conditional l) e = untouched _ _ xs (k .flags)
-  told code h (literal {v} {r} l m) e = literal-told code v r h (sym e)
-  told code h (register {b} {a} l m) e = register-told code b a h (sym e)
-
-  -- both columns of the code's row, of each word that is executed
-  pub effect-obeys : (w : Fields) → WellFormed w → Told xs k (w .code) (effectOf xs k (w .code) (w .operands) s)
-  effect-obeys w f = told (w .code) (code-below w f) (f .fitting) (f .own)
-
-  -- "Compare and test write no register", nor does any other word whose row doesn't store
-  pub no-store : (w : Fields) → WellFormed w → storesOf (w .code) ≡ false → effectOf xs k (w .code) (w .operands) s .file ≡ xs
-  no-store w f = effect-obeys w f .file
-
-  -- "Status (NB ZB C4 C8) is always set as 5.3.2 marks it; condition flags (N Z V C) only by LCF and odd codes 81-DF and E1-E7": here that what
-  -- is not marked is kept; to what the marked ones are set, Set says
-  pub flags-kept : (w : Fields) → WellFormed w → FlagsKept (maskOf (w .code)) (k .flags) (effectOf xs k (w .code) (w .operands) s .back .flags)
-  flags-kept w f = effect-obeys w f .flags
-
-  -- "Compare and test write no register", by 01's list
-  pub compares-store-nothing : (w : Fields) → WellFormed w → comparesOrTests (w .code) ≡ true → effectOf xs k (w .code) (w .operands) s .file ≡ xs
-  compares-store-nothing w f e = no-store w f (compare-row (w .code) (code-below w f) e)
-
-  -- "condition flags (N Z V C) only by LCF and odd codes 81-DF and E1-E7", by 01's list
-  pub conditions-kept : (w : Fields) → WellFormed w → setsConditions (w .code) ≡ false → ConditionsKept (k .flags) (effectOf xs k (w .code) (w .operands) s .back .flags)
-  conditions-kept w f e =
-      let h = flags-kept w f in
-      let low : maskOf (w .code) < 0x10 = condition-row (w .code) (code-below w f) e in
-      record { n = h .n (omega arith); z = h .z (omega arith); v = h .v (omega arith); c = h .c (omega arith) }
-
-  -- "Literals touch status only"
-  pub literals-touch-status-only : (w : Fields) → WellFormed w → w .class ≡ Class.Literal → ConditionsKept (k .flags) (effectOf xs k (w .code) (w .operands) s .back .flags)
-  literals-touch-status-only w f e = conditions-kept w f (literal-row (w .code) (code-below w f) (sym (f .own) ∙ e))
-
-  -- "CL leaves C4 and C8"
-  pub cl-leaves : (w : Fields) → WellFormed w → w .code ≡ 0x30
-      → let g = effectOf xs k (w .code) (w .operands) s .back .flags in
-      (g .c4 ≡ k .flags .c4) × (g .c8 ≡ k .flags .c8)
-  cl-leaves w f e =
-      let h = flags-kept w f in
-      let mask : maskOf (w .code) ≡ 0x0C = rw e cl-row in
-      (h .c4 (omega arith), h .c8 (omega arith))
+use Rattle.table_laws.specs.Table.{storedBy, RegistersKept, FlagsKept, ConditionsKept, RowHolds, comparesOrTests, setsConditions}
+use Rattle.table_laws.proofs.Instructions.{Columns, Keeps, untouched, literal-keeps, registers-keep}
+use Rattle.table_laws.proofs.Rows.{wordColumns, row-says, compare-row, condition-row, literal-row, cl-row}
 
 -- ---- every attempt
 
-module _ (xs : List ℕ) (k : Core) (s : Sample) (o : Outputs) where
-  executed-row : (word : ℕ) (w : Fields) → apartOf word ≡ Apart.Word w → RowHolds (topOf word) xs k (executedOf xs k w s o)
-  unfolding executedOf
-  executed-row word w e =
-      let f = apart-well-formed word w e in
-      let (stores, flags) = row-says (w .code) (code-listed w f) in
-      rw (← row-of-code (topOf word) (omega arith), ← apart-code word w e, stores, flags) (effect-obeys xs k s w f)
+module _ (xs : List ℕ) (k : Core) (s : Sample) (o : Outputs) (word : ℕ) where
+  abbrev WordKeeps : Columns → Leaves Outcome → Type 0
+  WordKeeps y e = Keeps xs (k .latches .g) (bIn word) (aIn word) (k .flags) y (leaves (e .file) (e .back .core .flags))
 
-  ends-row : (word : ℕ) (e : Leaves Outcome) (f : Fate) → EndsAs word xs k s o e f → RowHolds (topOf word) xs k e
-  unfolding resetOf
-  ends-row word e (refused n) (z, q) = rw q (untouched _ _ xs (k .flags))
-  ends-row word e waited q = rw q (untouched _ _ xs (k .flags))
-  ends-row word e reset q = rw q (untouched _ _ xs (k .flags))
-  ends-row word e compute-low q = rw q (untouched _ _ xs (k .flags))
-  ends-row word e completed (w, a, q) = rw q (executed-row word w a)
+  executed-keeps : (c : Class) → listed c ≡ true
+      → WordKeeps (wordColumns c (topOf word) (k .flags) (word / 0x10 % 0x100)) (executedOf xs k (fieldsIn c word) s o)
+  unfolding executedOf effectOf fieldsIn operandsIn jumpedOf literalEffect registerEffect
+  executed-keeps Class.Unlisted l = absurd (false≢true l)
+  executed-keeps Class.Jump l = untouched xs (k .latches .g) (bIn word) (aIn word) (k .flags) _
+  executed-keeps Class.Conditional l = untouched xs (k .latches .g) (bIn word) (aIn word) (k .flags) _
+  executed-keeps Class.Literal l = literal-keeps xs (k .latches .g) (bIn word) (aIn word) (k .flags) _ _
+  executed-keeps Class.Register l = registers-keep xs k (s .dal) (topOf word) (bIn word) (aIn word)
 
-  ends-idle : (word : ℕ) (e : Leaves Outcome) (f : Fate) → EndsAs word xs k s o e f → (f ≡ completed → ⊥)
-      → (e .file ≡ xs) × (e .back .core .flags ≡ k .flags)
+  ends-row : (e : Leaves Outcome) (f : Fate) → EndsAs word xs k s o e f → RowHolds word xs k e
   unfolding resetOf
-  ends-idle word e (refused n) (z, q) h = rw q (refl, refl)
-  ends-idle word e waited q h = rw q (refl, refl)
-  ends-idle word e reset q h = rw q (refl, refl)
-  ends-idle word e compute-low q h = rw q (refl, refl)
-  ends-idle word e completed q h = absurd (h refl)
+  ends-row e (refused n) (z, q) = rw q (untouched _ _ _ _ _ _)
+  ends-row e waited q = rw q (untouched _ _ _ _ _ _)
+  ends-row e reset q = rw q (untouched _ _ _ _ _ _)
+  ends-row e compute-low q = rw q (untouched _ _ _ _ _ _)
+  ends-row e completed (w, a, q) =
+      let (b, l, p) = apart-is word w a in
+      let (stores, flags) = row-says (topOf word) (k .flags) (word / 0x10 % 0x100) (omega arith) in
+      rw (q, ← p, ← stores, ← flags) (executed-keeps (classOf (topOf word)) l)
+
+  ends-idle : (e : Leaves Outcome) (f : Fate) → EndsAs word xs k s o e f → (f ≡ completed → ⊥) → (e .file ≡ xs) × (e .back .core .flags ≡ k .flags)
+  unfolding resetOf
+  ends-idle e (refused n) (z, q) h = rw q (refl, refl)
+  ends-idle e waited q h = rw q (refl, refl)
+  ends-idle e reset q h = rw q (refl, refl)
+  ends-idle e compute-low q h = rw q (refl, refl)
+  ends-idle e completed q h = absurd (h refl)
 
 module _ (ws : List ℕ) (rs : List Row) (xs : List ℕ) (k : Core) (s : Sample) where
-  attempt-row : RowHolds (topOf (takenWord ws k)) xs k (attemptOf ws rs xs k s)
+  attempt-row : RowHolds (takenWord ws k) xs k (attemptOf ws rs xs k s)
   attempt-row = ends-row xs k s (outputsOf ws rs k s) (takenWord ws k) (attemptOf ws rs xs k s) (fateOf ws k s) (attempt-fate ws rs xs k s)
 
-  -- an attempt writes a register only if the row of the word taken at LC stores
-  pub attempt-stores : rowOf (topOf (takenWord ws k)) .stores ≡ false → attemptOf ws rs xs k s .file ≡ xs
-  attempt-stores = attempt-row .file
+  -- an attempt writes only the registers that the row of the word taken at LC names
+  pub attempt-registers :
+      let word = takenWord ws k in
+      RegistersKept (k .latches .g) (storedBy (rowOf (topOf word) .stores) (bIn word) (aIn word)) xs (attemptOf ws rs xs k s .file)
+  attempt-registers = attempt-row .registers
+
+  -- so none, where the row names none
+  pub attempt-stores : rowOf (topOf (takenWord ws k)) .stores ≡ 0 → attemptOf ws rs xs k s .file ≡ xs
+  unfolding storedBy ranged
+  attempt-stores e =
+      let kept : RegistersKept _ _ _ _ = rw e at attempt-registers in
+      ext-getD 0 _ _ (kept .size) (λ i l. kept .byte i tt)
 
   -- and only the flags that the row marks
   pub attempt-flags : FlagsKept (rowOf (topOf (takenWord ws k)) .flags) (k .flags) (attemptOf ws rs xs k s .back .core .flags)
@@ -137,3 +84,32 @@ module _ (ws : List ℕ) (rs : List Row) (xs : List ℕ) (k : Core) (s : Sample)
   pub attempt-idle : (fateOf ws k s ≡ completed → ⊥) → (attemptOf ws rs xs k s .file ≡ xs) × (attemptOf ws rs xs k s .back .core .flags ≡ k .flags)
   attempt-idle =
       ends-idle xs k s (outputsOf ws rs k s) (takenWord ws k) (attemptOf ws rs xs k s) (fateOf ws k s) (attempt-fate ws rs xs k s)
+
+  -- ---- 01's sentences
+
+  -- "Compare and test write no register", by 01's list
+  pub compares-store-nothing : comparesOrTests (topOf (takenWord ws k)) ≡ true → attemptOf ws rs xs k s .file ≡ xs
+  compares-store-nothing e = attempt-stores (compare-row (topOf (takenWord ws k)) (omega arith) e)
+
+  below-status : rowOf (topOf (takenWord ws k)) .flags < 0x10 → ConditionsKept (k .flags) (attemptOf ws rs xs k s .back .core .flags)
+  below-status low =
+      let h = attempt-flags in
+      record { n = h .n (omega arith); z = h .z (omega arith); v = h .v (omega arith); c = h .c (omega arith) }
+
+  -- "condition flags (N Z V C) only by LCF and odd codes 81-DF and E1-E7", by 01's list
+  pub conditions-kept : setsConditions (topOf (takenWord ws k)) ≡ false → ConditionsKept (k .flags) (attemptOf ws rs xs k s .back .core .flags)
+  conditions-kept e = below-status (condition-row (topOf (takenWord ws k)) (omega arith) e)
+
+  -- "Literals touch status only": 20-6F
+  pub literals-touch-status-only : within 0x20 0x6F (topOf (takenWord ws k)) ≡ true
+      → ConditionsKept (k .flags) (attemptOf ws rs xs k s .back .core .flags)
+  literals-touch-status-only e = below-status (literal-row (topOf (takenWord ws k)) (omega arith) e)
+
+  -- "CL leaves C4 and C8": 30-3F
+  pub cl-leaves : within 0x30 0x3F (topOf (takenWord ws k)) ≡ true
+      → let after = attemptOf ws rs xs k s .back .core .flags in
+      (after .c4 ≡ k .flags .c4) × (after .c8 ≡ k .flags .c8)
+  cl-leaves e =
+      let h = attempt-flags in
+      let mask = cl-row (topOf (takenWord ws k)) (omega arith) e in
+      (h .c4 (omega arith), h .c8 (omega arith))

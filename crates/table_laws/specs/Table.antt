@@ -1,16 +1,36 @@
--- What the columns `stores` and `flags` of the table say of the registers and the flags that an instruction leaves.
-use Prim.Native.Nat.{ℕ, _+_, _/_, _%_}
+-- What the columns `stores` and `flags` of the table say of the registers and the flags that an attempt leaves.
+use Prim.Native.Nat.{ℕ, _/_, _%_}
 use mathlib.Core.Path.{_≡_}
-use mathlib.Core.Bool.{Bool, false, _&&_, _||_}
-use mathlib.Core.List.{List}
+use mathlib.Core.Bool.{Bool, _&&_, _||_}
+use mathlib.Core.List.{List, [], _∷_}
 use lib.Dec.{eqb}
+use lib.ListN.{length, getD}
 use Rattle.alu.specs.declared.Flags.{Flags}
-use Rattle.attempt_laws.specs.Fate.{within, odd}
-use Rattle.code.specs.CodeRows.{statusFlagsOf, conditionFlagsOf, storesOf, rowOf}
-use Rattle.state.specs.declared.Core.{Core}
-use Rattle.state.specs.File.{Leaves}
-use Rattle.attempt.specs.declared.Effect.{Effect}
 use Rattle.attempt.specs.declared.Outcome.{Outcome}
+use Rattle.attempt_laws.specs.Fate.{within, odd, bIn, aIn}
+use Rattle.choose.specs.Ranged.{ranged}
+use Rattle.code.specs.CodeRows.{rowOf}
+use Rattle.code.specs.Word.{topOf}
+use Rattle.state.specs.File.{Leaves, leaves, slotOf, highOf}
+use Rattle.state.specs.declared.Core.{Core}
+
+-- ---- registers
+
+-- the designators that `stores` names, of a word's own two: none; a; a and a+1; a and b
+unfoldable pub storedBy : ℕ → ℕ → ℕ → List ℕ
+storedBy stores b a = ranged stores ((1, []) ∷ (2, a ∷ []) ∷ (3, a ∷ highOf a ∷ []) ∷ []) (a ∷ b ∷ [])
+
+-- place i of the file is of none of the registers that these designators name, "by G before the attempt"
+abbrev pub Elsewhere : ℕ → List ℕ → ℕ → Type 0
+Elsewhere g [] i = Unit {0}
+Elsewhere g (d ∷ ds) i = (i ≡ slotOf g d → ⊥) × Elsewhere g ds i
+
+-- every place but theirs keeps its byte
+pub record RegistersKept (g : ℕ) (ds before after : List ℕ) : Type 0 where
+  pub size : length after ≡ length before
+  pub byte : (i : ℕ) → Elsewhere g ds i → getD after i 0 ≡ getD before i 0
+
+-- ---- flags
 
 -- each flag whose bit of the mask is 0 is as before: N Z V C are bits 7-4, NB ZB C4 C8 bits 3-0
 pub record FlagsKept (mask : ℕ) (before after : Flags) : Type 0 where
@@ -30,28 +50,24 @@ pub record ConditionsKept (before after : Flags) : Type 0 where
   pub v : after .v ≡ before .v
   pub c : after .c ≡ before .c
 
--- the flags that a code may write: "Status (NB ZB C4 C8) is always set as 5.3.2 marks it; condition flags (N Z V C) only by LCF and odd codes"
-abbrev pub maskOf : ℕ → ℕ
-maskOf code = conditionFlagsOf code + statusFlagsOf code
+-- ---- both
 
--- what is not marked is not written: the file where the row does not store, and each flag outside the mask
-pub record Obeys (stores : Bool) (mask : ℕ) (before after : List ℕ) (f g : Flags) : Type 0 where
-  pub file : stores ≡ false → after ≡ before
-  pub flags : FlagsKept mask f g
+-- what is not marked is kept: every register that is not named, and every flag outside the mask
+pub record RestKept (g : ℕ) (stored : List ℕ) (mask : ℕ) (before after : Leaves Flags) : Type 0 where
+  pub registers : RegistersKept g stored (before .file) (after .file)
+  pub flags : FlagsKept mask (before .back) (after .back)
 
--- what the table says of an effect
-abbrev pub Told : List ℕ → Core → ℕ → Leaves Effect → Type 0
-Told xs k code e = Obeys (storesOf code) (maskOf code) xs (e .file) (k .flags) (e .back .flags)
-
--- what the row of a top byte says of an attempt; an unlisted one's row has no store and no flag
+-- what the row of a word's top byte says of an attempt; an unlisted one's row has no store and no flag
 abbrev pub RowHolds : ℕ → List ℕ → Core → Leaves Outcome → Type 0
-RowHolds top xs k e = Obeys (rowOf top .stores) (rowOf top .flags) xs (e .file) (k .flags) (e .back .core .flags)
+RowHolds word xs k e =
+    RestKept (k .latches .g) (storedBy (rowOf (topOf word) .stores) (bIn word) (aIn word)) (rowOf (topOf word) .flags) (leaves xs (k .flags))
+    (leaves (e .file) (e .back .core .flags))
 
 -- ---- 01's own lists of codes, which use none of the table
 
 -- "Compare and test write no register": CL, TL; CB, CW; TB, TW
 unfoldable pub comparesOrTests : ℕ → Bool
-comparesOrTests code = eqb code 0x30 || eqb code 0x50 || within 0xB4 0xB7 code || within 0xC4 0xC7 code
+comparesOrTests code = within 0x30 0x3F code || within 0x50 0x5F code || within 0xB4 0xB7 code || within 0xC4 0xC7 code
 
 -- "condition flags (N Z V C) only by LCF and odd codes 81-DF and E1-E7": LCF is 73
 unfoldable pub setsConditions : ℕ → Bool

@@ -104,7 +104,7 @@ impl State {
 
     /// Where the register file holds the designator in the low four bits.
     #[inline]
-    pub(crate) fn place(&self, designator: u32) -> usize {
+    pub fn place(&self, designator: u32) -> usize {
         place(designator as u8, self.g)
     }
 

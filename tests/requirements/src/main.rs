@@ -75,7 +75,11 @@ fn cells(it: &Requirement, vectors: &Path) -> Vec<(&'static str, bool)> {
         cells.extend([
             ("microcycles", seen.microcycles == [facts.microcycles]),
             ("flags", seen.flags == facts.flags),
-            ("register", seen.registers == facts.register),
+            // The sets that cover every change are those with all that the page names in them.
+            (
+                "registers",
+                (0..8).all(|set| seen.registers[set] == (set & facts.registers == facts.registers)),
+            ),
             (
                 "waits",
                 seen.waits == facts.waits && seen.completes == facts.waits.map(|waits| !waits),

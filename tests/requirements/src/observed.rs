@@ -14,8 +14,8 @@ pub struct Observed {
     pub microcycles: Vec<u32>,
     /// Those that changed.
     pub flags: u8,
-    /// Whether one changed.
-    pub registers: bool,
+    /// Of each set of a, a+1 and b, bits 0, 1 and 2: whether every register that changed is named by one of it.
+    pub registers: [bool; 8],
     /// With REPLY and BUSY low, REPLY high, BUSY high, both high.
     pub waits: [bool; 4],
     /// With the same lines.
@@ -31,7 +31,7 @@ impl Observed {
             refusals: [0; 256],
             microcycles: Vec::new(),
             flags: 0,
-            registers: false,
+            registers: [true; 8],
             waits: [false; 4],
             completes: [false; 4],
         };
@@ -66,8 +66,20 @@ impl Observed {
                 }
                 self.completes[lines] = true;
                 self.flags |= before.flags ^ state.flags;
-                self.registers |= before.registers != state.registers;
+                self.registers(word, &before, &state);
             }
+        }
+    }
+
+    /// By G before the attempt.
+    fn registers(&mut self, word: u32, before: &State, after: &State) {
+        let named = [word, word + 1, word >> 4].map(|designator| before.place(designator));
+        let changed: Vec<usize> = (0..26)
+            .filter(|&place| before.registers[place] != after.registers[place])
+            .collect();
+        for (set, covers) in self.registers.iter_mut().enumerate() {
+            let of_set = |place| (0..3).any(|it| set >> it & 1 == 1 && named[it] == place);
+            *covers &= changed.iter().all(|&place| of_set(place));
         }
     }
 }

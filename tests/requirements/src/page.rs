@@ -23,13 +23,14 @@ pub struct Facts {
     pub microcycles: u32,
     /// N Z V C NB ZB C4 C8, high to low.
     pub flags: u8,
-    pub register: bool,
+    /// Of a, a+1 and b: bits 0, 1 and 2.
+    pub registers: usize,
     /// With REPLY and BUSY low, REPLY high, BUSY high, both high.
     pub waits: [bool; 4],
 }
 
 const HEADS: [&str; 2] = [
-    "| Key | Codes | Format | Microcycles | Status | Condition | Register | Waits | Refusals | Vectors |",
+    "| Key | Codes | Format | Microcycles | Status | Condition | Registers | Waits | Refusals | Vectors |",
     "| Key | Code | Refusals | Vectors |",
 ];
 
@@ -81,9 +82,11 @@ fn facts(cells: &[&str]) -> Option<Facts> {
     Some(Facts {
         microcycles: cells[3].parse().ok()?,
         flags: flags(cells[4], 0x0F)? | flags(cells[5], 0xF0)?,
-        register: match cells[6] {
-            "yes" => true,
-            "no" => false,
+        registers: match cells[6] {
+            "none" => 0,
+            "Ra" => 0b001,
+            "Ra and Ra+1" => 0b011,
+            "Ra and Rb" => 0b101,
             _ => return None,
         },
         waits: match cells[7] {

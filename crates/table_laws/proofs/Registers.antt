@@ -1,0 +1,157 @@
+-- Only the registers that a word names change: 01's lists of codes beside the table's column, and 01's names beside the places of the file.
+-- Assumes nothing.
+use Prim.Native.Nat.{ℕ, _+_, _/_, _%_, _<_}
+use mathlib.Core.Path.{_≡_, refl, ap, sym, _∙_}
+use mathlib.Core.Bool.{Bool, true, false, _&&_, _||_, false≢true}
+use mathlib.Core.List.{List, [], _∷_}
+use native.Mathlib.Omega.{arith}
+use lib.Dec.{T, eqb, ltb, eqb→eq}
+use lib.ListN.{length, getD}
+use borrow.Author.Tests.{eqb-true, eqb-false}
+use Rattle.attempt.specs.Attempt.{attemptOf}
+use Rattle.attempt_laws.specs.Fate.{Fate, refused, waited, reset, compute-low, completed}
+use Rattle.attempt_laws.specs.Fate.{odd, noCode, oddPair, twoCycle, inputWord, bIn, aIn, wordFate, takenWord, fateOf}
+use Rattle.choose.proofs.Table.{below}
+use Rattle.choose.specs.Ranged.{pick, ranged}
+use Rattle.code.specs.CodeRows.{classOf, storesOf, rowOf}
+use Rattle.code.specs.Word.{topOf}
+use Rattle.rows.specs.declared.Row.{Row}
+use Rattle.state.proofs.Registers.{named}
+use Rattle.state.specs.File.{slotOf, highOf}
+use Rattle.state.specs.Registers.{Register, nameOf, nameAt}
+use Rattle.state.specs.declared.Core.{Core}
+use Rattle.state.specs.declared.Sample.{Sample}
+use Rattle.table_laws.specs.Registers.{storesBoth, storedIn, Unnamed}
+use Rattle.table_laws.specs.Set.{storesByte, storesWord}
+use Rattle.table_laws.specs.Table.{comparesOrTests, storedBy, Elsewhere}
+use Rattle.table_laws.proofs.Theorem.{attempt-registers, attempt-idle}
+
+-- ---- the column by 01's lists: a test that antt computes over the codes. An unlisted code's row names none, whatever list it stands in
+
+abbrev numbered : Bool → Bool → Bool → ℕ
+numbered word both byte = pick word 2 (pick both 3 (pick byte 1 0))
+
+-- a column names none, or what it is taken for
+abbrev noneOr : ℕ → ℕ → Bool
+noneOr stores n = eqb stores 0 || eqb stores n
+
+row-stores : (code : ℕ) → code < 0x100 → T (noneOr (rowOf code .stores) (numbered (storesWord code) (storesBoth code) (storesByte code || eqb code 0x72)))
+unfolding rowOf classOf ranged storesOf storesWord storesBoth storesByte comparesOrTests
+row-stores code h =
+    below 0x100 (λ x. noneOr (rowOf x .stores) (numbered (storesWord x) (storesBoth x) (storesByte x || eqb x 0x72))) tt code h
+
+module _ (g b a i : ℕ) where
+  -- the designators that 01's lists name
+  abbrev listing : Bool → Bool → Bool → List ℕ
+  listing word both byte = pick word (a ∷ (a + 1) ∷ []) (pick both (a ∷ b ∷ []) (pick byte (a ∷ []) []))
+
+  -- the place of Ra+1
+  high-place : slotOf g (a + 1) ≡ slotOf g (highOf a)
+  unfolding slotOf highOf
+  high-place = let same : (a % 16 + 1) % 16 % 16 ≡ (a + 1) % 16 = omega arith in rw same
+
+  elsewhere-by : (word both byte : Bool) → Elsewhere g (listing word both byte) i → Elsewhere g (storedBy (numbered word both byte) b a) i
+  unfolding storedBy ranged
+  elsewhere-by true both byte (n, (m, u)) = (n, ((λ e. m (e ∙ sym high-place)), u))
+  elsewhere-by false true byte n = n
+  elsewhere-by false false true n = n
+  elsewhere-by false false false n = n
+
+  elsewhere : (stores : ℕ) (word both byte : Bool) → T (noneOr stores (numbered word both byte)) → Elsewhere g (listing word both byte) i
+      → Elsewhere g (storedBy stores b a) i
+  unfolding storedBy ranged
+  elsewhere stores word both byte t n = go (eqb stores 0) refl t
+    where
+      go : (z : Bool) → eqb stores 0 ≡ z → T (z || eqb stores (numbered word both byte)) → Elsewhere g (storedBy stores b a) i
+      go true e u = rw (eqb-true stores 0 e) tt
+      go false e u = rw (eqb→eq stores _ u) (elsewhere-by word both byte n)
+
+-- ---- every attempt
+
+-- every place but those of the registers that 01's lists name keeps its byte
+pub attempt-places : (ws : List ℕ) (rs : List Row) (xs : List ℕ) (k : Core) (s : Sample) (i : ℕ) → Elsewhere (k .latches .g) (storedIn (takenWord ws k)) i
+    → getD (attemptOf ws rs xs k s .file) i 0 ≡ getD xs i 0
+unfolding storedIn
+attempt-places ws rs xs k s i n =
+    let word = takenWord ws k in
+    let code = topOf word in
+    attempt-registers ws rs xs k s .byte i
+    (elsewhere (k .latches .g) (bIn word) (aIn word) i (rowOf code .stores) (storesWord code) (storesBoth code) (storesByte code || eqb code 0x72)
+    (row-stores code (omega arith)) n)
+
+-- ---- in 01's names
+
+no : {A : Type 0} → false ≡ true → A
+no e = absurd (false≢true e)
+
+-- a pair that is not refused has an even a
+even-a : (two input stores a b : Bool) → (two || input) && stores ≡ true → (two && (a || b)) || (input && a) ≡ false → a ≡ false
+even-a two input stores false b e f = refl
+even-a true input stores true b e f = no (sym f)
+even-a false true stores true b e f = no (sym f)
+even-a false false stores true b e f = no e
+
+-- a choice that comes out completed
+passes : (t : Bool) (x y : Fate) → (x ≡ completed → ⊥) → pick t x y ≡ completed → (t ≡ false) × (y ≡ completed)
+passes true x y n e = absurd (n e)
+passes false x y n e = (refl, e)
+
+takes : (t : Bool) (x y : Fate) → (y ≡ completed → ⊥) → pick t x y ≡ completed → x ≡ completed
+takes true x y n e = e
+takes false x y n e = absurd (n e)
+
+not-refused : (n : ℕ) → refused n ≡ completed → ⊥
+not-refused n e = let z : _≡_ {A = ℕ} 0 1 = cc in omega arith
+
+module _ (ws : List ℕ) (k : Core) (s : Sample) where
+  -- "Refusal 7 tests a and b for the two-cycle codes 82-DF, and a alone for IW and ISW"
+  completed-pair : fateOf ws k s ≡ completed → oddPair (topOf (takenWord ws k)) (bIn (takenWord ws k)) (aIn (takenWord ws k)) ≡ false
+  unfolding fateOf wordFate
+  completed-pair e =
+      let word = takenWord ws k in
+      let computes = passes (s .reset) _ _ (λ q. let z : _≡_ {A = ℕ} 0 1 = cc in omega arith) e .1 in
+      let fetched = takes (s .compute) _ _ (λ q. let z : _≡_ {A = ℕ} 0 1 = cc in omega arith) computes in
+      let taken = takes (ltb word 0x40_0000) _ _ (not-refused 2) (takes (ltb (k .address .lc) (length ws / 4)) _ _ (not-refused 5) fetched) in
+      passes (oddPair (topOf word) (bIn word) (aIn word)) _ _ (not-refused 7) (passes (noCode (topOf word)) _ _ (not-refused 6) taken .1) .0
+
+  -- so Ra+1 is one of R2-RF or of G's two
+  completed-high : fateOf ws k s ≡ completed → storesWord (topOf (takenWord ws k)) ≡ true → aIn (takenWord ws k) + 1 < 0x10
+  unfolding oddPair storesWord
+  completed-high e w =
+      let word = takenWord ws k in
+      let even = even-a (twoCycle (topOf word)) (inputWord (topOf word)) _ (odd (aIn word)) (odd (bIn word)) w (completed-pair e) in
+      omega (arith, eqb-false (aIn word % 2) 1 even)
+
+module _ (g : ℕ) (range : g < 8) (i : ℕ) where
+  -- a register of another name stands at another place
+  other-place : (d : ℕ) → d < 0x10 → (nameAt i ≡ nameOf g d → ⊥) → i ≡ slotOf g d → ⊥
+  other-place d l n e = n (ap nameAt e ∙ named g d (range, l))
+
+  unnamed-place : (b a : ℕ) → b < 0x10 → a < 0x10 → (word both byte : Bool) → (word ≡ true → a + 1 < 0x10)
+      → Unnamed g (listing g b a i word both byte) (nameAt i) → Elsewhere g (listing g b a i word both byte) i
+  unnamed-place b a m l true both byte h (n, (p, u)) = (other-place a l n, (other-place (a + 1) (h refl) p, u))
+  unnamed-place b a m l false true byte h (n, (p, u)) = (other-place a l n, (other-place b m p, u))
+  unnamed-place b a m l false false true h (n, u) = (other-place a l n, u)
+  unnamed-place b a m l false false false h u = u
+
+module _ (ws : List ℕ) (rs : List Row) (xs : List ℕ) (k : Core) (s : Sample) (range : k .latches .g < 8) (i : ℕ) where
+  -- every register that the word taken at LC doesn't name keeps its byte
+  pub attempt-named : Unnamed (k .latches .g) (storedIn (takenWord ws k)) (nameAt i) → getD (attemptOf ws rs xs k s .file) i 0 ≡ getD xs i 0
+  unfolding storedIn
+  attempt-named n = go (fateOf ws k s) refl
+    where
+      idle : (fateOf ws k s ≡ completed → ⊥) → getD (attemptOf ws rs xs k s .file) i 0 ≡ getD xs i 0
+      idle h = rw (attempt-idle ws rs xs k s h .0)
+
+      go : (f : Fate) → fateOf ws k s ≡ f → getD (attemptOf ws rs xs k s .file) i 0 ≡ getD xs i 0
+      go (refused r) e = idle (λ q. not-refused r (sym e ∙ q))
+      go waited e = idle (λ q. let z : _≡_ {A = ℕ} 0 1 = cc in omega arith)
+      go reset e = idle (λ q. let z : _≡_ {A = ℕ} 0 1 = cc in omega arith)
+      go compute-low e = idle (λ q. let z : _≡_ {A = ℕ} 0 1 = cc in omega arith)
+      go completed e =
+          let word = takenWord ws k in
+          let code = topOf word in
+          let byte = storesByte code || eqb code 0x72 in
+          let high = completed-high ws k s e in
+          attempt-places ws rs xs k s i
+          (unnamed-place (k .latches .g) range i (bIn word) (aIn word) (omega arith) (omega arith) (storesWord code) (storesBoth code) byte high n)

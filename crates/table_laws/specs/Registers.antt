@@ -1,0 +1,29 @@
+-- Which registers a word writes, by 01's own lists of codes and its own names of the registers: they use none of the engine's tables.
+use Prim.Native.Nat.{ℕ, _+_}
+use mathlib.Core.Path.{_≡_}
+use mathlib.Core.Bool.{Bool, _||_}
+use mathlib.Core.List.{List, [], _∷_}
+use lib.Dec.{eqb}
+use Rattle.attempt_laws.specs.Fate.{within, bIn, aIn}
+use Rattle.choose.specs.Ranged.{pick}
+use Rattle.code.specs.Word.{topOf}
+use Rattle.state.specs.Registers.{Register, nameOf}
+use Rattle.table_laws.specs.Set.{storesByte, storesWord}
+
+-- "F0-F7: Ra gains 1 or 2; the word codes then add the carry to Rb": F2, F3, F6, F7
+unfoldable pub storesBoth : ℕ → Bool
+storesBoth code = within 0xF2 0xF3 code || within 0xF6 0xF7 code
+
+-- the designators of the registers that a word may write: "A pair is Ra (low) and Ra+1"; "CCF stores it in Ra", and CCF is 72; else none
+unfoldable pub storedIn : ℕ → List ℕ
+storedIn word =
+    let code = topOf word in
+    let a = aIn word in
+    pick (storesWord code) (a ∷ (a + 1) ∷ [])
+    (pick (storesBoth code) (a ∷ bIn word ∷ [])
+    (pick (storesByte code || eqb code 0x72) (a ∷ []) []))
+
+-- a register is none of those that these designators name, "by G before the attempt"
+abbrev pub Unnamed : ℕ → List ℕ → Register → Type 0
+Unnamed g [] r = Unit {0}
+Unnamed g (d ∷ ds) r = (r ≡ nameOf g d → ⊥) × Unnamed g ds r
