@@ -127,11 +127,11 @@ alike cawi-odd = record { class = refl; other-class = refl; cycles = refl }
 -- ---- every completed attempt
 
 module _ (xs : List ℕ) (k : Core) (s : Sample) (o : Outputs) (word : ℕ) where
-  abbrev made : Leaves Flags
-  made = registersOf xs k (s .dal) (topOf word) (bIn word) (aIn word)
+  abbrev wordLeaves : Leaves Flags
+  wordLeaves = registersOf xs k (s .dal) (topOf word) (bIn word) (aIn word)
 
   abbrev Leaving : Leaves Outcome → Type 0
-  Leaving e = (e .file ≡ made .file) × (e .back .core .flags ≡ made .back)
+  Leaving e = (e .file ≡ wordLeaves .file) × (e .back .core .flags ≡ wordLeaves .back)
 
   executed-leaves : Leaving (executedOf xs k (fieldsIn Class.Register word) s o)
   unfolding executedOf effectOf fieldsIn operandsIn registerEffect
@@ -152,9 +152,9 @@ module _ (rs : List Row) (xs : List ℕ) (k : Core) (s : Sample) where
   attempt-costs ws e = rw e at (attempt-cycles-are ws rs xs k s)
 
   -- "A failed condition (C, or ICS for CAWI, being 0) changes registers and flags not at all; cycles stay"
-  pub condition-failed : (ws : List ℕ) → fateOf ws k s ≡ completed → conditionFails (topOf (takenWord ws k)) (k .flags .c) (k .latches .ics) ≡ true
+  pub failed-condition : (ws : List ℕ) → fateOf ws k s ≡ completed → conditionFails (topOf (takenWord ws k)) (k .flags .c) (k .latches .ics) ≡ true
       → LeavesAs (attemptOf ws rs xs k s) (leaves xs (k .flags)) (cyclesBy (topOf (takenWord ws k)))
-  condition-failed ws e f =
+  failed-condition ws e f =
       let word = takenWord ws k in
       let h : topOf word < 0x100 = omega arith in
       let code = fails (k .flags .c) (k .latches .ics) (topOf word) h f in
@@ -167,17 +167,17 @@ module _ (rs : List Row) (xs : List ℕ) (k : Core) (s : Sample) where
       }
 
   -- one that is met leaves what the code without it leaves, from the same state
-  pub condition-met : (ws other : List ℕ) → Unconditional (takenWord ws k) (takenWord other k)
+  pub met-condition : (ws other : List ℕ) → Unconditional (takenWord ws k) (takenWord other k)
       → fateOf ws k s ≡ completed → fateOf other k s ≡ completed → conditionFails (topOf (takenWord ws k)) (k .flags .c) (k .latches .ics) ≡ false
       → let e = attemptOf other rs xs k s in
       LeavesAs (attemptOf ws rs xs k s) (leaves (e .file) (e .back .core .flags)) (e .back .cycles)
-  condition-met ws other u p q f =
+  met-condition ws other u p q f =
       let word = takenWord ws k in
       let both = alike (u .code) in
       let (file, flags) = attempt-leaving ws p (both .class) in
       let (file′, flags′) = attempt-leaving other q (both .other-class) in
       let goes = met (k .flags .c) (k .latches .ics) (topOf word) (omega arith) f in
-      let same : registersOf xs k (s .dal) (topOf word) (bIn word) (aIn word) ≡ made xs k s (outputsOf other rs k s) (takenWord other k) =
+      let same : registersOf xs k (s .dal) (topOf word) (bIn word) (aIn word) ≡ wordLeaves xs k s (outputsOf other rs k s) (takenWord other k) =
       rw (u .b, u .a) (met-leaves xs k (s .dal) (bIn word) (aIn word) (u .code) goes) in
       record {
         file = file ∙ ap (λ (m : Leaves Flags). m .file) same ∙ sym file′;

@@ -1,6 +1,6 @@
 -- What each executed instruction says of itself: its columns in the shape of its execution, and that it keeps the rest, whatever the code.
 -- Assumes nothing.
-use Prim.Native.Nat.{ℕ, _+_, _*_, _/_, _%_}
+use Prim.Native.Nat.{ℕ, _/_, _%_}
 use mathlib.Core.Path.{_≡_, refl}
 use mathlib.Core.Bool.{Bool, true, false}
 use mathlib.Core.List.{List, [], _∷_}
@@ -19,7 +19,7 @@ use Rattle.plan.specs.Plan.{planOf, conditionMet, literalPlanOf}
 use Rattle.state.specs.File.{Leaves, leaves, highOf, registerOf}
 use Rattle.state.specs.declared.Core.{Core}
 use Rattle.table_laws.specs.Table.{storedBy, RestKept}
-use Rattle.table_laws.proofs.Cycles.{carries, marks, set, after-keeps, all-kept, written-kept, storing, Follows, one-cycle, two-cycles}
+use Rattle.table_laws.proofs.Cycles.{carries, marks, set, after-keeps, all-kept, written-kept, Follows, one-cycle, two-cycles}
 
 -- ---- the columns
 
@@ -79,11 +79,11 @@ module _ {A B : Type 0} (P : A → B → Type 0) where
 -- ---- that each instruction keeps what they don't mark
 
 module _ (xs : List ℕ) (g b a : ℕ) (f : Flags) where
-  abbrev pub Keeps : Columns → Leaves Flags → Type 0
-  Keeps s m = RestKept g (storedBy (s .stores) b a) (s .flags) (leaves xs f) m
+  abbrev pub KeepsRest : Columns → Leaves Flags → Type 0
+  KeepsRest s m = RestKept g (storedBy (s .stores) b a) (s .flags) (leaves xs f) m
 
   -- what leaves registers and flags keeps what any columns don't mark
-  pub untouched : (s : Columns) → Keeps s (leaves xs f)
+  pub untouched : (s : Columns) → KeepsRest s (leaves xs f)
   untouched s =
       record {
         registers = all-kept g _ xs;
@@ -96,32 +96,32 @@ module _ (xs : List ℕ) (g b a : ℕ) (f : Flags) where
   stored-by-plan true n = refl
   stored-by-plan false n = refl
 
-  planned-keeps : (n : ℕ) (plan : Plan) (odd : Bool) (m : Leaves Flags) → Follows g f plan (storedBy n b a) odd xs m → Keeps (planned n plan odd) m
+  planned-keeps : (n : ℕ) (plan : Plan) (odd : Bool) (m : Leaves Flags) → Follows g f plan (storedBy n b a) odd xs m → KeepsRest (planned n plan odd) m
   planned-keeps n plan odd m h = rw (stored-by-plan (plan .stores) n) h
 
-  byte-keeps : (plan : Plan) (p : ℕ) (odd : Bool) → Keeps (planned 1 plan odd) (oneCycleOf xs g f plan (designators a p) odd)
+  byte-keeps : (plan : Plan) (p : ℕ) (odd : Bool) → KeepsRest (planned 1 plan odd) (oneCycleOf xs g f plan (designators a p) odd)
   unfolding storedBy ranged
   byte-keeps plan p odd = planned-keeps 1 plan odd _ (one-cycle g f plan xs (designators a p) odd)
 
-  word-keeps : (plan : Plan) (p q : ℕ) (odd : Bool) → Keeps (planned 2 plan odd) (twoCyclesOf xs g f plan (designators a p) (designators (highOf a) q) odd)
+  word-keeps : (plan : Plan) (p q : ℕ) (odd : Bool) → KeepsRest (planned 2 plan odd) (twoCyclesOf xs g f plan (designators a p) (designators (highOf a) q) odd)
   unfolding storedBy ranged
   word-keeps plan p q odd = planned-keeps 2 plan odd _ (two-cycles g f plan (designators a p) (designators (highOf a) q) xs odd)
 
   -- "CL leaves C4 and C8"
-  compared : (v : ℕ) → Keeps (columns 0 (marks true false)) (leaves xs (comparedOf xs g f v a))
+  compared : (v : ℕ) → KeepsRest (columns 0 (marks true false)) (leaves xs (comparedOf xs g f v a))
   unfolding comparedOf afterByteOf keptOf
   compared v =
       record { registers = all-kept g _ xs; flags = after-keeps true false f _ _ (λ e. record { c4 = refl; c8 = refl; c = refl }) }
 
-  pub literal-keeps : (code v : ℕ) → Keeps (literalColumns code v) (literalOf xs g f code v a)
+  pub literal-keeps : (code v : ℕ) → KeepsRest (literalColumns code v) (literalOf xs g f code v a)
   unfolding literalColumns literalOf
-  literal-keeps code v = pick-both Keeps (eqb (code / 16) 3) _ _ _ _ (compared v) (byte-keeps (literalPlanOf code v) a false)
+  literal-keeps code v = pick-both KeepsRest (eqb (code / 16) 3) _ _ _ _ (compared v) (byte-keeps (literalPlanOf code v) a false)
 
-  copied : Keeps (columns 1 0) (copiedOf xs g f a)
+  copied : KeepsRest (columns 1 0) (copiedOf xs g f a)
   unfolding copiedOf storedBy ranged
   copied = record { registers = written-kept g a _ (a ∷ []) xs (λ i n. n .0); flags = untouched nothing .flags }
 
-  loaded : (ra : ℕ) → Keeps (columns 0 0xF0) (leaves xs (loadedOf f ra b))
+  loaded : (ra : ℕ) → KeepsRest (columns 0 0xF0) (leaves xs (loadedOf f ra b))
   unfolding loadedOf
   loaded ra =
       record {
@@ -129,46 +129,46 @@ module _ (xs : List ℕ) (g b a : ℕ) (f : Flags) where
         flags = record { n = set; z = set; v = set; c = set; nb = λ e. refl; zb = λ e. refl; c4 = λ e. refl; c8 = λ e. refl };
       }
 
-  stepped-by : (by : ℕ) → Keeps (columns 1 (marks false false)) (steppedByOf xs g f a by)
+  stepped-by : (by : ℕ) → KeepsRest (columns 1 (marks false false)) (steppedByOf xs g f a by)
   unfolding steppedByOf
   stepped-by by = byte-keeps _ a false
 
-  codes-70-to-77-keep : (code : ℕ) → Keeps (columns70To77 code) (codes70To77Of xs g f code b a)
+  codes-70-to-77-keep : (code : ℕ) → KeepsRest (columns70To77 code) (codes70To77Of xs g f code b a)
   unfolding columns70To77 codes70To77Of
   codes-70-to-77-keep code =
-      ranged-both Keeps code _ _
+      ranged-both KeepsRest code _ _
       (untouched _ also copied also loaded (registerOf xs g a) also untouched _ also stepped-by 0 also end)
       (stepped-by 255)
 
   -- "A failed condition .. changes registers and flags not at all"
   conditioned-keeps : (ics : Bool) (code : ℕ)
-      → Keeps (byBit code (planned 1 (planOf code f) (odd code)) (planned 2 (planOf code f) (odd code))) (conditionedOf xs g f ics code b a)
+      → KeepsRest (byBit code (planned 1 (planOf code f) (odd code)) (planned 2 (planOf code f) (odd code))) (conditionedOf xs g f ics code b a)
   unfolding conditionedOf operationOf
   conditioned-keeps ics code =
       let plan = planOf code f in
       let two = byBit code (planned 1 plan (odd code)) (planned 2 plan (odd code)) in
-      pick-all (Keeps two) (conditionMet code (f .c) ics) _ _
-      (pick-both Keeps (eqb (code / 2 % 2) 0) _ _ _ _ (byte-keeps plan b (odd code)) (word-keeps plan b (highOf b) (odd code)))
+      pick-all (KeepsRest two) (conditionMet code (f .c) ics) _ _
+      (pick-both KeepsRest (eqb (code / 2 % 2) 0) _ _ _ _ (byte-keeps plan b (odd code)) (word-keeps plan b (highOf b) (odd code)))
       (untouched two)
 
   input-keeps : (code dal m : ℕ)
-      → Keeps (byBit code (columns 1 (marks true (odd code))) (columns 2 (marks true (odd code)))) (inputOf xs g f code dal m b a)
+      → KeepsRest (byBit code (columns 1 (marks true (odd code))) (columns 2 (marks true (odd code)))) (inputOf xs g f code dal m b a)
   unfolding inputOf
   input-keeps code dal m =
-      pick-both Keeps (eqb (code / 2 % 2) 0) _ _ _ _ (byte-keeps _ a (odd code)) (word-keeps _ a (highOf a) (odd code))
+      pick-both KeepsRest (eqb (code / 2 % 2) 0) _ _ _ _ (byte-keeps _ a (odd code)) (word-keeps _ a (highOf a) (odd code))
 
-  access-keeps : (code : ℕ) → Keeps (byBit code (columns 1 (marks false false)) (columns 3 (marks false false))) (accessOf xs g f code b a)
+  access-keeps : (code : ℕ) → KeepsRest (byBit code (columns 1 (marks false false)) (columns 3 (marks false false))) (accessOf xs g f code b a)
   unfolding accessOf storedBy ranged
   access-keeps code =
-      pick-both Keeps (eqb (code / 2 % 2) 0) _ _ _ _ (byte-keeps _ a false) (two-cycles g f _ (designators a a) (designators b b) xs false)
+      pick-both KeepsRest (eqb (code / 2 % 2) 0) _ _ _ _ (byte-keeps _ a false) (two-cycles g f _ (designators a a) (designators b b) xs false)
 
 pub registers-keep : (xs : List ℕ) (core : Core) (dal code b a : ℕ)
-    → Keeps xs (core .latches .g) b a (core .flags) (registerColumns code (core .flags)) (registersOf xs core dal code b a)
+    → KeepsRest xs (core .latches .g) b a (core .flags) (registerColumns code (core .flags)) (registersOf xs core dal code b a)
 unfolding registerColumns registersOf
 registers-keep xs core dal code b a =
     let g = core .latches .g in
     let f = core .flags in
-    ranged-both (Keeps xs g b a f) code _ _
+    ranged-both (KeepsRest xs g b a f) code _ _
     (codes-70-to-77-keep xs g b a f code also
     conditioned-keeps xs g b a f (core .latches .ics) code also
     input-keeps xs g b a f code dal (core .bus .m) also

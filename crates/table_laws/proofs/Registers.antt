@@ -18,7 +18,7 @@ use Rattle.code.specs.Word.{topOf}
 use Rattle.rows.specs.declared.Row.{Row}
 use Rattle.state.proofs.Registers.{named}
 use Rattle.state.specs.File.{slotOf, highOf}
-use Rattle.state.specs.Registers.{Register, nameOf, nameAt}
+use Rattle.state.specs.Registers.{nameOf, nameAt}
 use Rattle.state.specs.declared.Core.{Core}
 use Rattle.state.specs.declared.Sample.{Sample}
 use Rattle.table_laws.specs.Registers.{storesBoth, storedIn, Unnamed}

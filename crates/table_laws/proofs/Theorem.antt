@@ -1,7 +1,7 @@
 -- The table's columns `stores` and `flags` hold of every attempt: what the row of the word taken at LC doesn't mark, no attempt writes.
 -- Assumes nothing.
-use Prim.Native.Nat.{ℕ, _*_, _/_, _%_, _<_}
-use mathlib.Core.Path.{_≡_, refl, sym}
+use Prim.Native.Nat.{ℕ, _/_, _%_, _<_}
+use mathlib.Core.Path.{_≡_, refl}
 use mathlib.Core.Bool.{true, false, false≢true}
 use mathlib.Core.List.{List}
 use native.Mathlib.Omega.{arith}
@@ -22,14 +22,14 @@ use Rattle.state.specs.File.{Leaves, leaves}
 use Rattle.state.specs.declared.Core.{Core}
 use Rattle.state.specs.declared.Sample.{Sample}
 use Rattle.table_laws.specs.Table.{storedBy, RegistersKept, FlagsKept, ConditionsKept, RowHolds, comparesOrTests, setsConditions}
-use Rattle.table_laws.proofs.Instructions.{Columns, Keeps, untouched, literal-keeps, registers-keep}
+use Rattle.table_laws.proofs.Instructions.{Columns, KeepsRest, untouched, literal-keeps, registers-keep}
 use Rattle.table_laws.proofs.Rows.{wordColumns, row-says, compare-row, condition-row, literal-row, cl-row}
 
 -- ---- every attempt
 
 module _ (xs : List ℕ) (k : Core) (s : Sample) (o : Outputs) (word : ℕ) where
   abbrev WordKeeps : Columns → Leaves Outcome → Type 0
-  WordKeeps y e = Keeps xs (k .latches .g) (bIn word) (aIn word) (k .flags) y (leaves (e .file) (e .back .core .flags))
+  WordKeeps y e = KeepsRest xs (k .latches .g) (bIn word) (aIn word) (k .flags) y (leaves (e .file) (e .back .core .flags))
 
   executed-keeps : (c : Class) → listed c ≡ true
       → WordKeeps (wordColumns c (topOf word) (k .flags) (word / 0x10 % 0x100)) (executedOf xs k (fieldsIn c word) s o)
