@@ -5,15 +5,15 @@ use mathlib.Core.Path.{_≡_, refl, ap, sym, _∙_}
 use mathlib.Core.Bool.{Bool, true, false, _&&_, _||_, false≢true}
 use mathlib.Core.List.{List, [], _∷_}
 use native.Mathlib.Omega.{arith}
-use lib.Dec.{T, eqb, ltb, eqb→eq}
+use lib.Dec.{eqb, ltb, eqb→eq}
 use lib.ListN.{length, getD}
-use borrow.Author.Tests.{eqb-true, eqb-false}
+use borrow.Author.Tests.{eqb-false}
 use Rattle.attempt.specs.Attempt.{attemptOf}
 use Rattle.attempt_laws.specs.Fate.{Fate, refused, waited, reset, compute-low, completed}
 use Rattle.attempt_laws.specs.Fate.{odd, noCode, oddPair, twoCycle, inputWord, bIn, aIn, wordFate, takenWord, fateOf}
 use Rattle.choose.proofs.Table.{below}
 use Rattle.choose.specs.Ranged.{pick, ranged}
-use Rattle.code.specs.CodeRows.{classOf, storesOf, rowOf}
+use Rattle.code.specs.CodeRows.{classOf, listed, storesOf, rowOf}
 use Rattle.code.specs.Word.{topOf}
 use Rattle.rows.specs.declared.Row.{Row}
 use Rattle.state.proofs.Registers.{named}
@@ -21,24 +21,25 @@ use Rattle.state.specs.File.{slotOf, highOf}
 use Rattle.state.specs.Registers.{nameOf, nameAt}
 use Rattle.state.specs.declared.Core.{Core}
 use Rattle.state.specs.declared.Sample.{Sample}
-use Rattle.table_laws.specs.Registers.{storesBoth, storedIn, Unnamed}
+use Rattle.table_laws.specs.Registers.{storesBoth, storesRa, storesBy, storedIn, Unnamed}
 use Rattle.table_laws.specs.Set.{storesByte, storesWord}
 use Rattle.table_laws.specs.Table.{comparesOrTests, storedBy, Elsewhere}
 use Rattle.table_laws.proofs.Theorem.{attempt-registers, attempt-idle}
 
--- ---- the column by 01's lists: a test that antt computes over the codes. An unlisted code's row names none, whatever list it stands in
+-- ---- the column by 01's lists: a test that antt computes over the codes
 
-abbrev numbered : Bool → Bool → Bool → ℕ
-numbered word both byte = pick word 2 (pick both 3 (pick byte 1 0))
+stores-listed : (top : ℕ) → top < 0x100 → listed (classOf top) ≡ true → storesOf top ≡ storesBy top
+unfolding classOf ranged storesOf storesBy storesWord storesBoth storesRa storesByte comparesOrTests
+stores-listed top h e = eqb→eq _ _ (rw e at (below 0x100 (λ x. pick (listed (classOf x)) (eqb (storesOf x) (storesBy x)) true) tt top h))
 
--- a column names none, or what it is taken for
-abbrev noneOr : ℕ → ℕ → Bool
-noneOr stores n = eqb stores 0 || eqb stores n
+-- each listed code's row names the registers that 01's lists say
+pub row-stores : (top : ℕ) → top < 0x100 → listed (classOf top) ≡ true → rowOf top .stores ≡ storesBy top
+unfolding rowOf
+row-stores top h e = rw e (stores-listed top h e)
 
-row-stores : (code : ℕ) → code < 0x100 → T (noneOr (rowOf code .stores) (numbered (storesWord code) (storesBoth code) (storesByte code || eqb code 0x72)))
-unfolding rowOf classOf ranged storesOf storesWord storesBoth storesByte comparesOrTests
-row-stores code h =
-    below 0x100 (λ x. noneOr (rowOf x .stores) (numbered (storesWord x) (storesBoth x) (storesByte x || eqb x 0x72))) tt code h
+unlisted-row : (top : ℕ) → listed (classOf top) ≡ false → rowOf top .stores ≡ 0
+unfolding rowOf
+unlisted-row top e = rw e
 
 module _ (g b a i : ℕ) where
   -- the designators that 01's lists name
@@ -50,21 +51,22 @@ module _ (g b a i : ℕ) where
   unfolding slotOf highOf
   high-place = let same : (a % 16 + 1) % 16 % 16 ≡ (a + 1) % 16 = omega arith in rw same
 
-  elsewhere-by : (word both byte : Bool) → Elsewhere g (listing word both byte) i → Elsewhere g (storedBy (numbered word both byte) b a) i
+  listed-elsewhere : (word both byte : Bool) → Elsewhere g (listing word both byte) i
+      → Elsewhere g (storedBy (pick word 2 (pick both 3 (pick byte 1 0))) b a) i
   unfolding storedBy ranged
-  elsewhere-by true both byte (n, (m, u)) = (n, ((λ e. m (e ∙ sym high-place)), u))
-  elsewhere-by false true byte n = n
-  elsewhere-by false false true n = n
-  elsewhere-by false false false n = n
+  listed-elsewhere true both byte (n, (m, u)) = (n, ((λ e. m (e ∙ sym high-place)), u))
+  listed-elsewhere false true byte n = n
+  listed-elsewhere false false true n = n
+  listed-elsewhere false false false n = n
 
-  elsewhere : (stores : ℕ) (word both byte : Bool) → T (noneOr stores (numbered word both byte)) → Elsewhere g (listing word both byte) i
-      → Elsewhere g (storedBy stores b a) i
-  unfolding storedBy ranged
-  elsewhere stores word both byte t n = go (eqb stores 0) refl t
+  elsewhere : (top : ℕ) → top < 0x100 → Elsewhere g (listing (storesWord top) (storesBoth top) (storesRa top)) i
+      → Elsewhere g (storedBy (rowOf top .stores) b a) i
+  unfolding storedBy ranged storesBy
+  elsewhere top h n = go (listed (classOf top)) refl
     where
-      go : (z : Bool) → eqb stores 0 ≡ z → T (z || eqb stores (numbered word both byte)) → Elsewhere g (storedBy stores b a) i
-      go true e u = rw (eqb-true stores 0 e) tt
-      go false e u = rw (eqb→eq stores _ u) (elsewhere-by word both byte n)
+      go : (t : Bool) → listed (classOf top) ≡ t → Elsewhere g (storedBy (rowOf top .stores) b a) i
+      go true e = rw (row-stores top h e) (listed-elsewhere (storesWord top) (storesBoth top) (storesRa top) n)
+      go false e = rw (unlisted-row top e) tt
 
 -- ---- every attempt
 
@@ -74,10 +76,7 @@ pub attempt-places : (ws : List ℕ) (rs : List Row) (xs : List ℕ) (k : Core) 
 unfolding storedIn
 attempt-places ws rs xs k s i n =
     let word = takenWord ws k in
-    let code = topOf word in
-    attempt-registers ws rs xs k s .byte i
-    (elsewhere (k .latches .g) (bIn word) (aIn word) i (rowOf code .stores) (storesWord code) (storesBoth code) (storesByte code || eqb code 0x72)
-    (row-stores code (omega arith)) n)
+    attempt-registers ws rs xs k s .byte i (elsewhere (k .latches .g) (bIn word) (aIn word) i (topOf word) (omega arith) n)
 
 -- ---- in 01's names
 
@@ -151,7 +150,6 @@ module _ (ws : List ℕ) (rs : List Row) (xs : List ℕ) (k : Core) (s : Sample)
       go completed e =
           let word = takenWord ws k in
           let code = topOf word in
-          let byte = storesByte code || eqb code 0x72 in
           let high = completed-high ws k s e in
           attempt-places ws rs xs k s i
-          (unnamed-place (k .latches .g) range i (bIn word) (aIn word) (omega arith) (omega arith) (storesWord code) (storesBoth code) byte high n)
+          (unnamed-place (k .latches .g) range i (bIn word) (aIn word) (omega arith) (omega arith) (storesWord code) (storesBoth code) (storesRa code) high n)

@@ -14,14 +14,22 @@ use Rattle.table_laws.specs.Set.{storesByte, storesWord}
 unfoldable pub storesBoth : ℕ → Bool
 storesBoth code = within 0xF2 0xF3 code || within 0xF6 0xF7 code
 
--- the designators of the registers that a word may write: "A pair is Ra (low) and Ra+1"; "CCF stores it in Ra", and CCF is 72; else none
+-- the codes that store a byte, and "CCF stores it in Ra": CCF is 72
+unfoldable pub storesRa : ℕ → Bool
+storesRa code = storesByte code || eqb code 0x72
+
+-- what the table's column has to be by these lists: 2 Ra and Ra+1, 3 Ra and Rb, 1 Ra, 0 none
+unfoldable pub storesBy : ℕ → ℕ
+storesBy code = pick (storesWord code) 2 (pick (storesBoth code) 3 (pick (storesRa code) 1 0))
+
+-- the designators of the registers that a word may write: "A pair is Ra (low) and Ra+1"; Ra and Rb; Ra; else none
 unfoldable pub storedIn : ℕ → List ℕ
 storedIn word =
     let code = topOf word in
     let a = aIn word in
     pick (storesWord code) (a ∷ (a + 1) ∷ [])
     (pick (storesBoth code) (a ∷ bIn word ∷ [])
-    (pick (storesByte code || eqb code 0x72) (a ∷ []) []))
+    (pick (storesRa code) (a ∷ []) []))
 
 -- a register is none of those that these designators name, "by G before the attempt"
 abbrev pub Unnamed : ℕ → List ℕ → Register → Type 0
