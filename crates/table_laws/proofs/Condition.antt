@@ -75,8 +75,8 @@ module _ (c ics : Bool) (code : ℕ) (h : code < 0x100) where
         cycles = eqb→eq _ _ (both-right kind (eqb (rowOf code .cycles) (cyclesBy code)) u);
       }
 
-  met : conditionFails code c ics ≡ false → conditionMet code c ics ≡ true
-  met e = holds _ (rw e at (conditions c ics code h))
+  pub condition-holds : conditionFails code c ics ≡ false → conditionMet code c ics ≡ true
+  condition-holds e = holds _ (rw e at (conditions c ics code h))
 
 -- ---- what the instruction leaves
 
@@ -176,9 +176,9 @@ module _ (rs : List Row) (xs : List ℕ) (k : Core) (s : Sample) where
       let both = alike (u .code) in
       let (file, flags) = attempt-leaving ws p (both .class) in
       let (file′, flags′) = attempt-leaving other q (both .other-class) in
-      let goes = met (k .flags .c) (k .latches .ics) (topOf word) (omega arith) f in
+      let holding = condition-holds (k .flags .c) (k .latches .ics) (topOf word) (omega arith) f in
       let same : registersOf xs k (s .dal) (topOf word) (bIn word) (aIn word) ≡ wordLeaves xs k s (outputsOf other rs k s) (takenWord other k) =
-      rw (u .b, u .a) (met-leaves xs k (s .dal) (bIn word) (aIn word) (u .code) goes) in
+      rw (u .b, u .a) (met-leaves xs k (s .dal) (bIn word) (aIn word) (u .code) holding) in
       record {
         file = file ∙ ap (λ (m : Leaves Flags). m .file) same ∙ sym file′;
         flags = flags ∙ ap (λ (m : Leaves Flags). m .back) same ∙ sym flags′;

@@ -8,7 +8,8 @@ use lib.Dec.{T, eqb, ltb}
 use borrow.Author.Tests.{lt-ltb}
 use Rattle.attempt.specs.Attempt.{executedOf, outputsOf, attemptOf}
 use Rattle.attempt_laws.proofs.Fate.{attempt-fate}
-use Rattle.attempt_laws.specs.Fate.{Fate, refused, waited, reset, compute-low, completed, within, noCode, twoCycle, inputWord, oddPair, noOption, mustWait, bIn, aIn, wordFate, takenWord, fateOf, EndsAs}
+use Rattle.attempt_laws.specs.Fate.{Fate, refused, waited, reset, compute-low, completed}
+use Rattle.attempt_laws.specs.Fate.{within, noCode, twoCycle, inputWord, oddPair, noOption, mustWait, bIn, aIn, wordFate, takenWord, fateOf, EndsAs}
 use Rattle.choose.proofs.Table.{below}
 use Rattle.choose.proofs.Tests.{both-left, both-right, equal-tests}
 use Rattle.choose.specs.Below.{allBelow}
