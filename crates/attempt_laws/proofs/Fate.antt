@@ -24,8 +24,9 @@ use Rattle.rows.specs.declared.Row.{Row}
 use Rattle.state.specs.Range.{InRange, SampleInRange}
 use Rattle.state.specs.declared.Core.{Core}
 use Rattle.state.specs.declared.Sample.{Sample}
-use Rattle.attempt.specs.Attempt.{executedOf, checkedOf, takenOf, fetchedOf, attemptedOf, outputsOf, attemptOf}
-use Rattle.attempt_laws.specs.Fate.{Fate, refused, waited, reset, compute-low, completed, noCode, oddPair, noOption, mustWait, bIn, aIn, wordFate, takenWord, fateOf, EndsAs, seen}
+use Rattle.attempt.specs.Attempt.{executedOf, checkedOf, takenOf, fetchedOf, resetOf, attemptedOf, outputsOf, attemptOf}
+use Rattle.attempt_laws.specs.Fate.{Fate, refused, waited, reset, compute-low, completed, noCode, oddPair, noOption, mustWait}
+use Rattle.attempt_laws.specs.Fate.{bIn, aIn, wordFate, takenWord, fateOf, EndsAs, seen}
 use Rattle.choose.proofs.Choice.{pick-both}
 use Rattle.choose.proofs.Tests.{equal-tests}
 use Rattle.attempt_laws.proofs.Range.{executed-request}
@@ -54,7 +55,8 @@ numbers-equal : (code b a : ℕ) → code < 256 → b < 16 → a < 16 → number
 unfolding classOf ranged designatorRefusalOf oddDesignatorOf pairsOf optionsOf noCode oddPair noOption
 numbers-equal code b a h i j =
     let codes = below 256 (λ c. allBelow 16 (λ x. allBelow 16 (agree c x))) tt code h in
-    eqb→eq (numberByTables (classOf code) code b a) (numberByLists code b a) (below 16 (agree code b) (below 16 (λ x. allBelow 16 (agree code x)) codes b i) a j)
+    eqb→eq (numberByTables (classOf code) code b a) (numberByLists code b a)
+    (below 16 (agree code b) (below 16 (λ x. allBelow 16 (agree code x)) codes b i) a j)
 
 -- for every code and lines
 waits-equal : (code : ℕ) → code < 256 → (s : Sample) → waitingOf (codeOf code) s ≡ mustWait code (s .reply) (s .busy)
@@ -74,7 +76,8 @@ waits-equal code h s = go (s .reply) (s .busy)
     go false false = equal-tests _ _ (below 256 (test false false) tt code h)
 
 -- the engine's number of a listed word is that of its class
-refusal-in : (c : Class) (word : ℕ) → listed c ≡ true → wordRefusalOf (codeIn c (topOf word)) (operandsIn c word) ≡ numberByTables c (topOf word) (bIn word) (aIn word)
+refusal-in : (c : Class) (word : ℕ) → listed c ≡ true
+    → wordRefusalOf (codeIn c (topOf word)) (operandsIn c word) ≡ numberByTables c (topOf word) (bIn word) (aIn word)
 unfolding wordRefusalOf operandsIn
 refusal-in Class.Unlisted word l = absurd (false≢true l)
 refusal-in Class.Jump word l = refl
@@ -137,7 +140,7 @@ module _ (xs : List ℕ) (k : Core) (s : Sample) (o : Outputs) where
       (λ h. ((λ z. omega arith), refl)))
 
   attempted-ends : (ws : List ℕ) → EndsAs (takenWord ws k) xs k s o (attemptedOf ws o xs k s) (fateOf ws k s)
-  unfolding attemptedOf fetchedOf fateOf
+  unfolding attemptedOf fetchedOf resetOf fateOf
   attempted-ends ws =
       let P = EndsAs (takenWord ws k) xs k s o in
       pick-both P (s .reset) _ _ _ _ refl

@@ -6,4 +6,9 @@ pub mod Range
 pub mod Refusal
 pub mod Starred
 pub mod Fate
-pub mod Frame
+pub mod Bits
+pub mod Where
+pub mod Next
+pub mod Bus
+pub mod Latches
+pub mod After

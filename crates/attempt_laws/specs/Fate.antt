@@ -7,15 +7,15 @@ use mathlib.Core.List.{List, [], _∷_}
 use lib.Dec.{eqb, leb, ltb}
 use lib.ListN.{length}
 use Rattle.choose.specs.Ranged.{pick, ranged}
-use Rattle.code.specs.Word.{topOf, apartOf}
+use Rattle.code.specs.Word.{apartOf}
 use Rattle.code.specs.declared.Apart.{Apart}
 use Rattle.code.specs.declared.Fields.{Fields}
 use Rattle.rows.specs.declared.Outputs.{Outputs}
 use Rattle.state.specs.declared.Core.{Core}
 use Rattle.state.specs.declared.Sample.{Sample}
-use Rattle.attempt.specs.Attempt.{outcomeOf, executedOf, resetOf, modifiedOf}
+use Rattle.attempt.specs.Attempt.{executedOf, modifiedOf}
 use Rattle.numbers.specs.Numbers.{wordAt}
-use Rattle.state.specs.File.{Leaves, leaves}
+use Rattle.state.specs.File.{Leaves}
 use Rattle.attempt.specs.declared.Outcome.{Outcome}
 
 pub data Fate : Type 0 where
@@ -76,7 +76,10 @@ mustWait code reply busy =
 
 -- ---- the fate
 
--- bits 7-4 and 3-0 of a word; topOf is bits 15-8
+-- bits 15-8, 7-4 and 3-0 of a word
+abbrev pub topIn : ℕ → ℕ
+topIn word = word / 0x100 % 0x100
+
 abbrev pub bIn : ℕ → ℕ
 bIn word = word / 0x10 % 0x10
 
@@ -87,10 +90,10 @@ aIn word = word % 0x10
 unfoldable pub wordFate : ℕ → Sample → Fate
 wordFate word s =
     pick (ltb word 0x40_0000)
-    (pick (noCode (topOf word)) (refused 6)
-    (pick (oddPair (topOf word) (bIn word) (aIn word)) (refused 7)
-    (pick (noOption (topOf word) (bIn word)) (refused 8)
-    (pick (mustWait (topOf word) (s .reply) (s .busy)) waited
+    (pick (noCode (topIn word)) (refused 6)
+    (pick (oddPair (topIn word) (bIn word) (aIn word)) (refused 7)
+    (pick (noOption (topIn word) (bIn word)) (refused 8)
+    (pick (mustWait (topIn word) (s .reply) (s .busy)) waited
     completed))))
     (refused 2)
 
@@ -108,15 +111,29 @@ fateOf ws k s =
     (refused 5))
     compute-low)
 
--- ---- what the attempt gives then, whole: the file, the state, the request, the microcycles and the refusal's number
+-- ---- what the attempt gives then, whole
+
+-- "LC becomes 1, SYNC and IACK go low, the waiting modification is dropped, nothing else changes"
+abbrev pub afterReset : Core → Core
+afterReset k =
+    record {
+      flags = k .flags;
+      address = record { lc = 1; rr = k .address .rr; tsr = k .address .tsr };
+      bus = record { m = k .bus .m; sync = false; iack = false };
+      latches = record { g = k .latches .g; tr = k .latches .tr; ics = k .latches .ics; interrupts = k .latches .interrupts; marked = false; modification = 0 };
+    }
+
+-- the file, the state, the request, the microcycles and the refusal's number
+abbrev pub ends : List ℕ → Core → ℕ → ℕ → ℕ → Leaves Outcome
+ends xs k request cycles refusal = record { file = xs; back = record { core = k; request = request; cycles = cycles; refusal = refusal } }
 
 -- "Numbers 5-8 return the state before the refused attempt"; "A wait costs 1, changes nothing and has kind 10"; RESET "kind 11", COMPUTE low "nothing
 -- changes (kind 12). Both cost 1"; and else the taken word is executed, with the rows' outputs o
 abbrev pub EndsAs : ℕ → List ℕ → Core → Sample → Outputs → Leaves Outcome → Fate → Type 0
-EndsAs word xs k s o e (refused n) = (n ≡ 0 → ⊥) × (e ≡ leaves xs (outcomeOf k 0 0 n))
-EndsAs word xs k s o e waited = e ≡ leaves xs (outcomeOf k (10 * 65536) 1 0)
-EndsAs word xs k s o e reset = e ≡ leaves xs (outcomeOf (resetOf k) (11 * 65536) 1 0)
-EndsAs word xs k s o e compute-low = e ≡ leaves xs (outcomeOf k (12 * 65536) 1 0)
+EndsAs word xs k s o e (refused n) = (n ≡ 0 → ⊥) × (e ≡ ends xs k 0 0 n)
+EndsAs word xs k s o e waited = e ≡ ends xs k (10 * 65536) 1 0
+EndsAs word xs k s o e reset = e ≡ ends xs (afterReset k) (11 * 65536) 1 0
+EndsAs word xs k s o e compute-low = e ≡ ends xs k (12 * 65536) 1 0
 EndsAs word xs k s o e completed = (w : Fields) × (apartOf word ≡ Apart.Word w) × (e ≡ executedOf xs k w s o)
 
 -- the fate that a caller sees, from the refusal's number and the request's kind: a completed attempt has refusal 0 and a kind from 0 to 9

@@ -1,3 +1,3 @@
 pub mod Fate
-pub mod Frame
+pub mod After
 pub mod Starred
