@@ -1,19 +1,20 @@
--- Every part of the state after a completed word but registers and flags, and its request, by 01's sentences. Assumes nothing.
+-- Every part of the state after a completed word but registers and flags, its request and its microcycles, by 01's sentences. Assumes nothing.
 use Prim.Native.Nat.{ℕ, _*_, _/_, _≤_, _<_}
 use mathlib.Core.Path.{_≡_, refl, sym}
 use mathlib.Core.Bool.{Bool, true, false, _&&_, _||_, false≢true}
 use mathlib.Core.List.{List}
 use native.Mathlib.Omega.{arith}
-use lib.Dec.{eqb, ltb}
+use lib.Dec.{eqb, eqb→eq, ltb}
 use lib.ListN.{length}
 use borrow.Author.Tests.{ltb-false, ne-eqb}
 use Rattle.attempt.specs.Attempt.{executedOf, outputsOf, attemptOf}
 use Rattle.attempt.specs.Effect.{jumpedOf, literalEffect, registerEffect, effectOf}
 use Rattle.attempt.specs.declared.Outcome.{Outcome}
-use Rattle.choose.specs.Ranged.{pick}
+use Rattle.choose.proofs.Table.{below}
+use Rattle.choose.specs.Ranged.{pick, ranged}
 use Rattle.code.proofs.Words.{apart-is}
-use Rattle.code.specs.CodeRows.{classOf, listed}
-use Rattle.code.specs.Word.{operandsIn, fieldsIn}
+use Rattle.code.specs.CodeRows.{classOf, listed, cyclesOf}
+use Rattle.code.specs.Word.{codeIn, operandsIn, fieldsIn}
 use Rattle.code.specs.declared.Class.{Class}
 use Rattle.control.specs.Latches.{used}
 use Rattle.control.specs.declared.Way.{Way}
@@ -27,7 +28,7 @@ use Rattle.state.specs.declared.Bus.{Bus}
 use Rattle.state.specs.declared.Core.{Core}
 use Rattle.state.specs.declared.Latches.{Latches}
 use Rattle.state.specs.declared.Sample.{Sample}
-use Rattle.attempt_laws.specs.After.{pairIn, raIn, rowsSee, AddressIs, BusIs, requestIs, LatchesAre}
+use Rattle.attempt_laws.specs.After.{pairIn, raIn, rowsSee, AddressIs, BusIs, requestIs, LatchesAre, costIs}
 use Rattle.attempt_laws.specs.Fate.{Fate, refused, waited, reset, compute-low, completed, noCode, oddPair, noOption, mustWait}
 use Rattle.attempt_laws.specs.Fate.{within, topIn, bIn, aIn, wordFate, takenWord, fateOf, afterReset, ends}
 use Rattle.attempt_laws.proofs.Fate.{attempt-fate}
@@ -140,6 +141,14 @@ small-option code b e lo hi = omega (arith, ltb-false 7 b (go (ltb 7 b) (rw (ins
     go true e = absurd (false≢true (sym e))
     go false e = refl
 
+-- ---- the microcycles: a test over the codes, which the checker computes
+
+cost-is : (code : ℕ) → code < 256 → listed (classOf code) ≡ true → cyclesOf (codeIn (classOf code) code) ≡ costIs code
+unfolding classOf cyclesOf ranged
+cost-is code h l =
+    let test : ℕ → Bool = λ c. pick (listed (classOf c)) (eqb (cyclesOf (codeIn (classOf c) c)) (costIs c)) true in
+    eqb→eq _ _ (rw l at (below 256 test tt code h))
+
 -- ---- the laws
 
 module _ (ws : List ℕ) (rs : List Row) (xs : List ℕ) (k : Core) (s : Sample) where
@@ -187,6 +196,14 @@ module _ (ws : List ℕ) (rs : List Row) (xs : List ℕ) (k : Core) (s : Sample)
   -- its request
   pub attempt-request : fateOf ws k s ≡ completed → attemptOf ws rs xs k s .back .request ≡ requestIs (topIn word) rb-ra (s .dal)
   attempt-request completes = attempt-parts completes .2
+
+  -- its microcycles
+  pub attempt-cost : fateOf ws k s ≡ completed → attemptOf ws rs xs k s .back .cycles ≡ costIs (topIn word)
+  unfolding executedOf fieldsIn
+  attempt-cost completes =
+      let (w, a, q) = rw completes at (attempt-fate ws rs xs k s) in
+      let (h, l, p) = apart-is word w a in
+      rw (q, ← p) (cost-is (topIn word) (omega arith) l)
 
   -- G, TR, ICS, I4-I6 and the modification
   pub attempt-latches : fateOf ws k s ≡ completed

@@ -1,5 +1,5 @@
--- What a completed word leaves in every part of the state but registers and flags, exactly, and its request: 01's sentences and lists of codes, of
--- the taken word's own bits, the state before and the sample. What is in no list of a part leaves it as it was.
+-- What a completed word leaves in every part of the state but registers and flags, exactly, its request and its microcycles: 01's sentences and lists of
+-- codes, of the taken word's own bits, the state before and the sample. What is in no list of a part leaves it as it was.
 use Prim.Native.Nat.{ℕ, _+_, _-_, _*_, _/_, _%_, _^_, _<_}
 use mathlib.Core.Path.{_≡_}
 use mathlib.Core.Bool.{Bool, true, false, not, _&&_, _||_, Bool·beq}
@@ -16,7 +16,7 @@ use Rattle.state.specs.declared.Bus.{Bus}
 use Rattle.state.specs.declared.Core.{Core}
 use Rattle.state.specs.declared.Latches.{Latches}
 use Rattle.state.specs.declared.Sample.{Sample}
-use Rattle.attempt_laws.specs.Fate.{within, odd, oneOf, topIn, bIn, aIn}
+use Rattle.attempt_laws.specs.Fate.{within, odd, oneOf, twoCycle, inputWord, topIn, bIn, aIn}
 
 -- bit i of a number, of weight 2^i
 abbrev pub bitAt : ℕ → ℕ → Bool
@@ -132,3 +132,12 @@ pub record LatchesAre (code b ra pair : ℕ) (s : Sample) (before after : Latche
   -- "execution, which uses the modification up (..; MI sets the next)": "LTR loads TR, MI the modification, with Rb:Ra"
   pub marked : after .marked ≡ within 0xEC 0xED code
   pub modification : after .modification ≡ pick (within 0xEC 0xED code) pair 0
+
+-- ---- the microcycles
+
+-- manual 5.3.2: two for the jumps 00-1F, the word codes of 80-DF, IW, ISW, LTR, and the word codes F2, F3, F6 and F7; else one
+abbrev pub costIs : ℕ → ℕ
+costIs code =
+    pick
+    (within 0x00 0x1F code || twoCycle code || inputWord code || within 0xEE 0xEF code || within 0xF2 0xF3 code || within 0xF6 0xF7 code)
+    2 1
