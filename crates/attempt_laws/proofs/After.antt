@@ -194,8 +194,8 @@ module _ (ws : List ℕ) (rs : List Row) (xs : List ℕ) (k : Core) (s : Sample)
   attempt-bus completes = attempt-parts completes .1
 
   -- its request
-  pub attempt-request : fateOf ws k s ≡ completed → attemptOf ws rs xs k s .back .request ≡ requestIs (topIn word) rb-ra (s .dal)
-  attempt-request completes = attempt-parts completes .2
+  pub attempt-request-is : fateOf ws k s ≡ completed → attemptOf ws rs xs k s .back .request ≡ requestIs (topIn word) rb-ra (s .dal)
+  attempt-request-is completes = attempt-parts completes .2
 
   -- its microcycles
   pub attempt-cost : fateOf ws k s ≡ completed → attemptOf ws rs xs k s .back .cycles ≡ costIs (topIn word)
