@@ -17,14 +17,11 @@ use Rattle.code.specs.CodeRows.{classOf, listed, cyclesOf}
 use Rattle.code.specs.Word.{codeIn, operandsIn, fieldsIn}
 use Rattle.code.specs.declared.Class.{Class}
 use Rattle.control.specs.Latches.{used}
-use Rattle.control.specs.declared.Way.{Way}
 use Rattle.numbers.specs.Numbers.{wordAt}
 use Rattle.rows.specs.Scan.{scanOf}
 use Rattle.rows.specs.declared.Outputs.{Outputs}
 use Rattle.rows.specs.declared.Row.{Row}
 use Rattle.state.specs.File.{Leaves, registerOf}
-use Rattle.state.specs.declared.Address.{Address}
-use Rattle.state.specs.declared.Bus.{Bus}
 use Rattle.state.specs.declared.Core.{Core}
 use Rattle.state.specs.declared.Latches.{Latches}
 use Rattle.state.specs.declared.Sample.{Sample}
@@ -37,72 +34,38 @@ use Rattle.attempt_laws.proofs.Bus.{bus-left, bus-is, request-none, req
 use Rattle.attempt_laws.proofs.Latches.{latches-left, latches-are}
 use Rattle.attempt_laws.proofs.Where.{other, _next_, ranged-where, inside}
 
--- ---- an executed word, by the ranges of its top byte
+-- ---- an executed word, by its format: the ranges of its top byte
 
-module _ (xs : List ℕ) (k : Core) (s : Sample) (o : Outputs) (word : ℕ) where
-  abbrev pair : ℕ
-  pair = pairIn xs (k .latches .g) word
+record Formats (P : Leaves Outcome → Type 0) (xs : List ℕ) (k : Core) (s : Sample) (o : Outputs) (word : ℕ) : Type 0 where
+  pub jump : topIn word < 0x10 → P (executedOf xs k (fieldsIn Class.Jump word) s o)
+  pub conditional : 0x10 ≤ topIn word → topIn word < 0x20 → P (executedOf xs k (fieldsIn Class.Conditional word) s o)
+  pub literal : 0x20 ≤ topIn word → topIn word < 0x70 → P (executedOf xs k (fieldsIn Class.Literal word) s o)
+  pub register : 0x70 ≤ topIn word → P (executedOf xs k (fieldsIn Class.Register word) s o)
 
-  abbrev Parts : Address → Bus → ℕ → Latches → Type 0
-  Parts address bus request latches =
-      AddressIs word k o address
-      × BusIs (topIn word) (bIn word) pair (k .bus) bus
-      × (request ≡ requestIs (topIn word) pair (s .dal))
-      × LatchesAre (topIn word) (bIn word) (raIn xs (k .latches .g) word) pair s (k .latches) latches
-
-  abbrev PartsOf : Leaves Outcome → Type 0
-  PartsOf e = Parts (e .back .core .address) (e .back .core .bus) (e .back .request) (e .back .core .latches)
-
+module _ (P : Leaves Outcome → Type 0) (xs : List ℕ) (k : Core) (s : Sample) (o : Outputs) (word : ℕ) (f : Formats P xs k s o word) where
   abbrev Executed : Class → Type 0
-  Executed c = listed c ≡ true → PartsOf (executedOf xs k (fieldsIn c word) s o)
+  Executed c = listed c ≡ true → P (executedOf xs k (fieldsIn c word) s o)
 
   unlisted : Executed Class.Unlisted
   unlisted l = absurd (false≢true l)
 
-  -- jumps and literals change the address, and use the modification up
-  address-only : {a : Address} → topIn word < 0x70 → AddressIs word k o a → Parts a (k .bus) 0 (used (k .latches))
-  address-only h address = (
-    address,
-    bus-left (topIn word) (bIn word) pair (k .bus) (omega arith),
-    request-none (topIn word) pair (s .dal) (omega arith) (omega arith),
-    latches-left (topIn word) (bIn word) (raIn xs (k .latches .g) word) pair s (k .latches) (omega arith),
-  )
-
-  -- RTSR is none of the codes below 70
-  not-rtsr : (code : ℕ) → code < 0x70 → topIn word < 0x70 → eqb code 0x74 ≡ eqb (topIn word) 0x74
-  not-rtsr code p q = rw (ne-eqb code 0x74 (omega arith), ne-eqb (topIn word) 0x74 (omega arith))
-
-  register-parts : (0xE0 ≤ topIn word → topIn word ≤ 0xE3 → bIn word < 8) → 0x70 ≤ topIn word → Executed Class.Register
-  unfolding executedOf effectOf fieldsIn operandsIn registerEffect registerOf
-  register-parts small h l = (
-    address-is word k o Way.Onward (topIn word) (past-is word k o (omega arith)) refl,
-    bus-is (topIn word) (bIn word) pair (k .bus) small,
-    request-is (topIn word) pair (s .dal) (omega arith),
-    latches-are (topIn word) (bIn word) (raIn xs (k .latches .g) word) pair s (k .latches),
-  )
-
-  executed-parts : (0xE0 ≤ topIn word → topIn word ≤ 0xE3 → bIn word < 8) → Executed (classOf (topIn word))
-  unfolding classOf executedOf effectOf fieldsIn operandsIn jumpedOf literalEffect
-  executed-parts small =
-      let register : 0x70 ≤ topIn word → Executed Class.Register = register-parts small in
+  executed-all : Executed (classOf (topIn word))
+  unfolding classOf
+  executed-all =
       ranged-where Executed (topIn word) {from = 0} (omega arith)
-      ((λ f t l.
-      address-only (omega arith)
-      (address-is word k o _ (topIn word / 8 * 8) (jump-is word k o t) (not-rtsr (topIn word / 8 * 8) (omega arith) (omega arith)))) next
-      (λ f t l. address-only (omega arith) (address-is word k o _ (topIn word) (conditional-is word k o f t) refl)) next
-      (λ f t l.
-      address-only t
-      (address-is word k o _ (topIn word / 0x10 * 0x10) (past-is word k o f) (not-rtsr (topIn word / 0x10 * 0x10) (omega arith) t))) next
-      (λ f t. register f) next
-      (λ f t. unlisted) next
-      (λ f t. register (omega arith)) next
-      (λ f t. unlisted) next
-      (λ f t. register (omega arith)) next
-      (λ f t. unlisted) next
-      (λ f t. register (omega arith)) next
-      (λ f t. unlisted) next
-      (λ f t. register (omega arith)) next
-      other (λ f. unlisted))
+      ((λ lo hi l. f .jump hi) next
+      (λ lo hi l. f .conditional lo hi) next
+      (λ lo hi l. f .literal lo hi) next
+      (λ lo hi l. f .register lo) next
+      (λ lo hi. unlisted) next
+      (λ lo hi l. f .register (omega arith)) next
+      (λ lo hi. unlisted) next
+      (λ lo hi l. f .register (omega arith)) next
+      (λ lo hi. unlisted) next
+      (λ lo hi l. f .register (omega arith)) next
+      (λ lo hi. unlisted) next
+      (λ lo hi l. f .register (omega arith)) next
+      other (λ lo. unlisted))
 
 -- ---- a completed word is there, and its b is listed
 
@@ -151,6 +114,10 @@ cost-is code h l =
 
 -- ---- the laws
 
+-- RTSR is none of the codes below 70
+not-rtsr : (code top : ℕ) → code < 0x70 → top < 0x70 → eqb code 0x74 ≡ eqb top 0x74
+not-rtsr code top p q = rw (ne-eqb code 0x74 (omega arith), ne-eqb top 0x74 (omega arith))
+
 module _ (ws : List ℕ) (rs : List Row) (xs : List ℕ) (k : Core) (s : Sample) where
   -- "RESET high: LC becomes 1, .., nothing else changes (request kind 11)"
   pub attempt-reset : s .reset ≡ true → attemptOf ws rs xs k s ≡ ends xs (afterReset k) (11 * 65536) 1 0
@@ -178,24 +145,55 @@ module _ (ws : List ℕ) (rs : List Row) (xs : List ℕ) (k : Core) (s : Sample)
   unfolding outputsOf
   outputs-are completes = rw (completed-there ws k s completes .0, rows-see (wordAt ws (k .address .lc)) k s)
 
-  attempt-parts : fateOf ws k s ≡ completed → PartsOf xs k s rowOutputs word (attemptOf ws rs xs k s)
-  attempt-parts completes =
+  small-b : fateOf ws k s ≡ completed → 0xE0 ≤ topIn word → topIn word ≤ 0xE3 → bIn word < 8
+  small-b completes = small-option (topIn word) (bIn word) (completed-option word s (completed-there ws k s completes .1))
+
+  completed-all : (P : Leaves Outcome → Type 0) → fateOf ws k s ≡ completed → Formats P xs k s rowOutputs word → P (attemptOf ws rs xs k s)
+  completed-all P completes f =
       let (w, a, q) = rw completes at (attempt-fate ws rs xs k s) in
       let (h, l, p) = apart-is word w a in
-      let small = small-option (topIn word) (bIn word) (completed-option word s (completed-there ws k s completes .1)) in
-      rw (q, ← p, ← outputs-are completes) (executed-parts xs k s (outputsOf ws rs k s) word small l)
+      rw (q, ← p, outputs-are completes) (executed-all P xs k s rowOutputs word f l)
 
   -- LC, RR and TSR after a completed word, by the outputs of the rows
   pub attempt-next : fateOf ws k s ≡ completed → AddressIs word k rowOutputs (attemptOf ws rs xs k s .back .core .address)
-  attempt-next completes = attempt-parts completes .0
+  unfolding executedOf effectOf fieldsIn operandsIn jumpedOf literalEffect registerEffect
+  attempt-next completes =
+      let by = address-is word k rowOutputs in
+      completed-all (λ e. AddressIs word k rowOutputs (e .back .core .address)) completes
+      (record {
+        jump = λ h. by _ (topIn word / 8 * 8) (jump-is word k rowOutputs h) (not-rtsr (topIn word / 8 * 8) (topIn word) (omega arith) (omega arith));
+        conditional = λ lo hi. by _ (topIn word) (conditional-is word k rowOutputs lo hi) refl;
+        literal =
+            λ lo hi.
+            by _ (topIn word / 0x10 * 0x10) (past-is word k rowOutputs lo) (not-rtsr (topIn word / 0x10 * 0x10) (topIn word) (omega arith) (omega arith));
+        register = λ h. by _ (topIn word) (past-is word k rowOutputs (omega arith)) refl;
+      })
 
   -- M, SYNC and IACK
   pub attempt-bus : fateOf ws k s ≡ completed → BusIs (topIn word) (bIn word) rb-ra (k .bus) (attemptOf ws rs xs k s .back .core .bus)
-  attempt-bus completes = attempt-parts completes .1
+  unfolding executedOf effectOf fieldsIn operandsIn jumpedOf literalEffect registerEffect registerOf
+  attempt-bus completes =
+      let left : topIn word < 0x70 → BusIs (topIn word) (bIn word) rb-ra (k .bus) (k .bus) = λ h. bus-left _ _ _ _ (omega arith) in
+      completed-all (λ e. BusIs (topIn word) (bIn word) rb-ra (k .bus) (e .back .core .bus)) completes
+      (record {
+        jump = λ h. left (omega arith);
+        conditional = λ lo hi. left (omega arith);
+        literal = λ lo hi. left hi;
+        register = λ h. bus-is _ _ _ _ (small-b completes);
+      })
 
   -- its request
   pub attempt-request-is : fateOf ws k s ≡ completed → attemptOf ws rs xs k s .back .request ≡ requestIs (topIn word) rb-ra (s .dal)
-  attempt-request-is completes = attempt-parts completes .2
+  unfolding executedOf effectOf fieldsIn operandsIn jumpedOf literalEffect registerEffect registerOf
+  attempt-request-is completes =
+      let none : topIn word < 0x70 → 0 ≡ requestIs (topIn word) rb-ra (s .dal) = λ h. request-none _ _ _ (omega arith) (omega arith) in
+      completed-all (λ e. e .back .request ≡ requestIs (topIn word) rb-ra (s .dal)) completes
+      (record {
+        jump = λ h. none (omega arith);
+        conditional = λ lo hi. none (omega arith);
+        literal = λ lo hi. none hi;
+        register = λ h. request-is _ _ _ (omega arith);
+      })
 
   -- its microcycles
   pub attempt-cost : fateOf ws k s ≡ completed → attemptOf ws rs xs k s .back .cycles ≡ costIs (topIn word)
@@ -208,4 +206,14 @@ module _ (ws : List ℕ) (rs : List Row) (xs : List ℕ) (k : Core) (s : Sample)
   -- G, TR, ICS, I4-I6 and the modification
   pub attempt-latches : fateOf ws k s ≡ completed
       → LatchesAre (topIn word) (bIn word) ra rb-ra s (k .latches) (attemptOf ws rs xs k s .back .core .latches)
-  attempt-latches completes = attempt-parts completes .3
+  unfolding executedOf effectOf fieldsIn operandsIn jumpedOf literalEffect registerEffect registerOf
+  attempt-latches completes =
+      let after : Latches → Type 0 = LatchesAre (topIn word) (bIn word) ra rb-ra s (k .latches) in
+      let left : topIn word < 0x70 → after (used (k .latches)) = λ h. latches-left _ _ _ _ _ _ (omega arith) in
+      completed-all (λ e. after (e .back .core .latches)) completes
+      (record {
+        jump = λ h. left (omega arith);
+        conditional = λ lo hi. left (omega arith);
+        literal = λ lo hi. left hi;
+        register = λ h. latches-are _ _ _ _ _ _;
+      })
