@@ -148,26 +148,29 @@ module _ (ws : List ℕ) (rs : List Row) (xs : List ℕ) (k : Core) (s : Sample)
   small-b : fateOf ws k s ≡ completed → 0xE0 ≤ topIn word → topIn word ≤ 0xE3 → bIn word < 8
   small-b completes = small-option (topIn word) (bIn word) (completed-option word s (completed-there ws k s completes .1))
 
-  completed-all : (P : Leaves Outcome → Type 0) → fateOf ws k s ≡ completed → Formats P xs k s rowOutputs word → P (attemptOf ws rs xs k s)
+  completed-all : (P : Leaves Outcome → Type 0) → fateOf ws k s ≡ completed
+      → Formats P xs k s (outputsOf ws rs k s) word → P (attemptOf ws rs xs k s)
   completed-all P completes f =
       let (w, a, q) = rw completes at (attempt-fate ws rs xs k s) in
       let (h, l, p) = apart-is word w a in
-      rw (q, ← p, outputs-are completes) (executed-all P xs k s rowOutputs word f l)
+      rw (q, ← p) (executed-all P xs k s (outputsOf ws rs k s) word f l)
 
   -- LC, RR and TSR after a completed word, by the outputs of the rows
   pub attempt-next : fateOf ws k s ≡ completed → AddressIs word k rowOutputs (attemptOf ws rs xs k s .back .core .address)
   unfolding executedOf effectOf fieldsIn operandsIn jumpedOf literalEffect registerEffect
   attempt-next completes =
-      let by = address-is word k rowOutputs in
-      completed-all (λ e. AddressIs word k rowOutputs (e .back .core .address)) completes
+      let o = outputsOf ws rs k s in
+      let by = address-is word k o in
+      rw (← outputs-are completes)
+      (completed-all (λ e. AddressIs word k o (e .back .core .address)) completes
       (record {
-        jump = λ h. by _ (topIn word / 8 * 8) (jump-is word k rowOutputs h) (not-rtsr (topIn word / 8 * 8) (topIn word) (omega arith) (omega arith));
-        conditional = λ lo hi. by _ (topIn word) (conditional-is word k rowOutputs lo hi) refl;
+        jump = λ h. by _ (topIn word / 8 * 8) (jump-is word k o h) (not-rtsr (topIn word / 8 * 8) (topIn word) (omega arith) (omega arith));
+        conditional = λ lo hi. by _ (topIn word) (conditional-is word k o lo hi) refl;
         literal =
             λ lo hi.
-            by _ (topIn word / 0x10 * 0x10) (past-is word k rowOutputs lo) (not-rtsr (topIn word / 0x10 * 0x10) (topIn word) (omega arith) (omega arith));
-        register = λ h. by _ (topIn word) (past-is word k rowOutputs (omega arith)) refl;
-      })
+            by _ (topIn word / 0x10 * 0x10) (past-is word k o lo) (not-rtsr (topIn word / 0x10 * 0x10) (topIn word) (omega arith) (omega arith));
+        register = λ h. by _ (topIn word) (past-is word k o (omega arith)) refl;
+      }))
 
   -- M, SYNC and IACK
   pub attempt-bus : fateOf ws k s ≡ completed → BusIs (topIn word) (bIn word) rb-ra (k .bus) (attemptOf ws rs xs k s .back .core .bus)
