@@ -26,7 +26,7 @@ use Rattle.rows.specs.Scan.{none}
 use Rattle.state.specs.declared.Core.{Core}
 use Rattle.state.specs.declared.Latches.{Latches}
 use Rattle.state.specs.declared.Sample.{Sample}
-use Rattle.sums.specs.Sums.{Step, Sign, stepCode, instructionOf, isPair, sourceOf, targetOf}
+use Rattle.sums.specs.Sums.{Step, Sign, following, stepCode, instructionOf, isPair, sourceOf, targetOf}
 use Rattle.sums.specs.Sums.Step.{byte, pair}
 use Rattle.sums.proofs.Codes.{cycles, pairs, options, goes-on, bus-kept, latches-kept, no-request, no-rtsr, working, class, no-cad, word-bit, stepCarry}
 use Rattle.sums.proofs.Cycles.{Fits, stepMade, step-is}
@@ -66,11 +66,11 @@ unfolding wordRefusalOf designatorRefusalOf oddDesignatorOf
 refusal-none sign later (byte a b) h =
     let c = stepCode sign later false in
     let r = working sign later false in
-    rw (no-cad sign later false, pairs c r, word-bit sign later false, options c r, le-ltb 15 b (h .1))
+    rw (no-cad sign later false, pairs c r, word-bit sign later false, options c r, le-ltb 15 b (omega arith))
 refusal-none sign later (pair a b) h =
     let c = stepCode sign later true in
     let r = working sign later true in
-    rw (no-cad sign later true, pairs c r, word-bit sign later true, options c r, h .2, h .3, le-ltb 15 b (omega arith))
+    rw (no-cad sign later true, pairs c r, word-bit sign later true, options c r, h .4, h .5, le-ltb 15 b (omega arith))
 
 -- ---- executed
 
@@ -79,7 +79,7 @@ abbrev pub coreAfter : Core → Flags → Bool → Core
 coreAfter k f loads =
     record {
       flags = f;
-      address = record { lc = plusOne (k .address .lc); rr = pick loads (plusOne (k .address .lc)) (k .address .rr); tsr = k .address .tsr };
+      address = record { lc = following (k .address .lc); rr = pick loads (following (k .address .lc)) (k .address .rr); tsr = k .address .tsr };
       bus = k .bus;
       latches = used (k .latches);
     }
@@ -87,9 +87,12 @@ coreAfter k f loads =
 abbrev pub endedAt : Core → Leaves Flags → Bool → Bool → Leaves Outcome
 endedAt k m loads wide = leaves (m .file) (outcomeOf (coreAfter k (m .back) loads) 0 (1 + bit wide) 0)
 
+plus-one : (at : ℕ) → plusOne at ≡ following at
+plus-one at = omega arith
+
 executed-is : (sign : Sign) (later : Bool) (t : Step) (xs : List ℕ) (k : Core) (s : Sample) (w : ℕ) → Fits t
     → executedOf xs k (fieldsAt w (stepCode sign later (isPair t)) (sourceOf t) (targetOf t)) s none
-    ≡ endedAt k (stepMade sign xs (k .latches .g) (stepCarry sign later (k .flags)) t) (eqb (w / 0x1_0000 % 2) 1) (isPair t)
+    ≡ endedAt k (stepMade sign xs (stepCarry sign later (k .flags)) t) (eqb (w / 0x1_0000 % 2) 1) (isPair t)
 unfolding executedOf effectOf registerEffect addressAfter nextOf onwardOf rrOf tsrOf
 executed-is sign later t xs k s w h =
     let c = stepCode sign later (isPair t) in
@@ -102,11 +105,12 @@ executed-is sign later t xs k s w h =
       cycles c r,
       word-bit sign later (isPair t),
       no-rtsr c r,
+      plus-one (k .address .lc),
     )
 
 checked-is : (sign : Sign) (later : Bool) (t : Step) (xs : List ℕ) (k : Core) (s : Sample) (w : ℕ) → Fits t
     → checkedOf xs k (fieldsAt w (stepCode sign later (isPair t)) (sourceOf t) (targetOf t)) s none
-    ≡ endedAt k (stepMade sign xs (k .latches .g) (stepCarry sign later (k .flags)) t) (eqb (w / 0x1_0000 % 2) 1) (isPair t)
+    ≡ endedAt k (stepMade sign xs (stepCarry sign later (k .flags)) t) (eqb (w / 0x1_0000 % 2) 1) (isPair t)
 unfolding checkedOf
 checked-is sign later t xs k s w h =
     rw (refusal-none sign later t h, goes-on (stepCode sign later (isPair t)) (working sign later (isPair t)) s) (executed-is sign later t xs k s w h)
@@ -114,11 +118,11 @@ checked-is sign later t xs k s w h =
 -- ---- fetched
 
 fits-b : (t : Step) → Fits t → sourceOf t ≤ 0xF
-fits-b (byte a b) h = h .1
+fits-b (byte a b) h = omega arith
 fits-b (pair a b) h = omega arith
 
 fits-a : (t : Step) → Fits t → targetOf t ≤ 0xF
-fits-a (byte a b) h = h .0
+fits-a (byte a b) h = omega arith
 fits-a (pair a b) h = omega arith
 
 no-outputs : (ws : List ℕ) (k : Core) (s : Sample) → outputsOf ws [] k s ≡ none
@@ -142,7 +146,7 @@ pub attempt-is : (sign : Sign) (later : Bool) (t : Step) (ws xs : List ℕ) (k :
     → wordAt ws (k .address .lc) % 0x1_0000 ≡ instructionOf sign later t
     → k .latches .marked ≡ false → s .compute ≡ true → s .reset ≡ false
     → attemptOf ws [] xs k s
-    ≡ endedAt k (stepMade sign xs (k .latches .g) (stepCarry sign later (k .flags)) t) (eqb (wordAt ws (k .address .lc) / 0x1_0000 % 2) 1) (isPair t)
+    ≡ endedAt k (stepMade sign xs (stepCarry sign later (k .flags)) t) (eqb (wordAt ws (k .address .lc) / 0x1_0000 % 2) 1) (isPair t)
 unfolding attemptOf attemptedOf fetchedOf
 attempt-is sign later t ws xs k s h l u e m c r =
     let w = wordAt ws (k .address .lc) in

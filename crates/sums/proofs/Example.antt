@@ -1,131 +1,125 @@
--- Demand 3's hypotheses at the entry can be met for three bytes, and those of `host-back` together: a deck that adds, the 41 bytes that are handed back,
--- and a deck with these as its state that subtracts. Assumes nothing.
+-- Demand 3's hypotheses at the entry can be met for both in one run: a deck whose first words add three bytes, and whose next take them away again, cut
+-- otherwise. Assumes nothing.
 use Prim.Native.Nat.{ℕ}
-use mathlib.Core.Path.{_≡_, refl, ap, sym, _∙_}
-use mathlib.Core.Bool.{true, false}
+use mathlib.Core.Path.{_≡_, refl, _∙_}
+use mathlib.Core.Bool.{true}
 use mathlib.Core.List.{List, [], _∷_, _++_}
 use native.Mathlib.Omega.{arith}
 use lib.ListN.{replicate}
-use Rattle.alu.specs.Cycle.{addOf}
-use Rattle.numbers.specs.Numbers.{wordAt, Bytes}
 use Rattle.deck.specs.Elements.{sampleAt}
-use Rattle.deck.specs.Ranges.{wordsInRange, rowsPartInRange, samplesInRange, deckRefusalOf}
-use Rattle.deck.specs.Sections.{sectionEnd, layoutOf, wholeOf, sectionOf, wordsPart, rowsPart, statePart}
+use Rattle.deck.specs.Ranges.{wordsInRange, samplesInRange}
+use Rattle.deck.specs.Sections.{sectionEnd, layoutOf, wholeOf, sectionOf, wordsPart}
 use Rattle.engine.specs.Host.{Hosted, reported, hostOf}
-use Rattle.engine.specs.Run.{World, samplesFrom}
-use Rattle.rows.specs.Range.{rowsInRange}
-use Rattle.rows.specs.Section.{rowsOf}
-use Rattle.state.specs.File.{registerOf, slotOf, writtenOf}
+use Rattle.engine.specs.Run.{World, world, samplesFrom}
+use Rattle.numbers.specs.Numbers.{wordAt}
 use Rattle.state.specs.FlagByte.{flagByteOf, nibbleOf}
-use Rattle.state.specs.declared.Sample.{Sample}
-use Rattle.state_bytes.proofs.Laws.{file-length}
 use Rattle.state_bytes.specs.Bytes.{addressOf, busOf, latchesOf, coreOf, fileOf, tailOf, bytesOf}
 use Rattle.state_bytes.specs.Range.{addressInRange, latchesInRange, coreInRange, stateInRange}
-use Rattle.sums.specs.Host.{deckSamples, deckFile, deckCore, DeckGiven, handedBack}
-use Rattle.sums.specs.Sums.{Cut, Sign, instructionsOf, InPlace}
-use Rattle.sums.specs.Sums.Sign.{plus, minus}
+use Rattle.sums.specs.Host.{deckStart, DeckReady, handedBack, HostBackInOneRun}
+use Rattle.sums.specs.Sums.{Cut, Marked, TwoCuts, thereAndBack, BackInOneRun}
+use Rattle.sums.specs.Sums.Sign.{minus}
 use Rattle.sums.specs.Sums.Step.{byte, pair}
-use Rattle.sums.proofs.Host.{handed, host-sum, host-back}
-use Rattle.sums.proofs.Summed.{run-steps}
+use Rattle.sums.proofs.Given.{bytes-tested}
+use Rattle.sums.proofs.Host.{host-back-in-one-run}
+use Rattle.sums.proofs.Read.{Read, let-in}
 
--- ---- the decks
+-- ---- the deck
 
--- the number in R5 R4 R2 and the one in R7 R6 R3: the low byte, then the pair
-abbrev cut : Cut
-cut = byte 2 3 ∷ pair 4 6 ∷ []
+-- the number in R5 R4 R2 and the one in R7 R6 R3: the low byte and then the pair; and back byte by byte
+abbrev there : Cut
+there = byte 2 3 ∷ pair 4 6 ∷ []
 
--- A132, AB64 with bit 16; and back, B132, BB64
+abbrev back : Cut
+back = byte 2 3 ∷ byte 4 6 ∷ byte 5 7 ∷ []
+
+-- A132, AB64 with bit 16; and back, B132, B964, B975
 abbrev words : List ℕ
-words = 0x32 ∷ 0xA1 ∷ 0 ∷ 0 ∷ 0x64 ∷ 0xAB ∷ 1 ∷ 0 ∷ 0x32 ∷ 0xB1 ∷ 0 ∷ 0 ∷ 0x64 ∷ 0xBB ∷ 0 ∷ 0 ∷ []
+words = 0x32 ∷ 0xA1 ∷ 0 ∷ 0 ∷ 0x64 ∷ 0xAB ∷ 1 ∷ 0 ∷ 0x32 ∷ 0xB1 ∷ 0 ∷ 0 ∷ 0x64 ∷ 0xB9 ∷ 0 ∷ 0 ∷ 0x75 ∷ 0xB9 ∷ 0 ∷ 0 ∷ []
 
 -- a state of R2-R7, the flag byte, LC and RR; all else 0
-abbrev stateWith : List ℕ → ℕ → ℕ → ℕ → List ℕ
-stateWith rs flags lc rr = (replicate 12 0 ++ (rs ++ replicate 8 0)) ++ (0 ∷ flags ∷ lc ∷ 0 ∷ rr ∷ 0 ∷ replicate 9 0)
+abbrev stateWith : ℕ → ℕ → ℕ → List ℕ
+stateWith flags lc rr =
+    (replicate 12 0 ++ ((0xFF ∷ 0x02 ∷ 0xFF ∷ 0x80 ∷ 0xFF ∷ 0x80 ∷ []) ++ replicate 8 0)) ++ (0 ∷ flags ∷ lc ∷ 0 ∷ rr ∷ 0 ∷ replicate 9 0)
 
--- 7FFFFF and 000001, with C; then their sum 800000, with N, V, NB and C4, LC past the first two words, and RR by bit 16
+-- 80FFFF and 80FF02, with C; their sum, 01FF01, has a carry and does not fit, and so has the way back a borrow and does not fit: N, V, C, NB and C4.
+-- LC is past the five words, and RR by bit 16
 abbrev before : List ℕ
-before = stateWith (0xFF ∷ 0x01 ∷ 0xFF ∷ 0x7F ∷ 0 ∷ 0 ∷ []) 0x10 0 0
+before = stateWith 0x10 0 0
 
-abbrev between : List ℕ
-between = stateWith (0 ∷ 0x01 ∷ 0 ∷ 0x80 ∷ 0 ∷ 0 ∷ []) 0xAA 2 2
+abbrev after : List ℕ
+after = stateWith 0xBA 5 2
 
--- each section after its count: the words, no rows, a state, two samples with COMPUTE alone
-abbrev deckWith : List ℕ → List ℕ
-deckWith s = (4 ∷ 0 ∷ words) ++ ((0 ∷ 0 ∷ 1 ∷ 0 ∷ []) ++ (s ++ (2 ∷ 0 ∷ 0 ∷ 0 ∷ 4 ∷ 0 ∷ 0 ∷ 0 ∷ 4 ∷ 0 ∷ [])))
+-- five samples with COMPUTE alone
+abbrev lines : List ℕ
+lines = 0 ∷ 0 ∷ 4 ∷ 0 ∷ 0 ∷ 0 ∷ 4 ∷ 0 ∷ 0 ∷ 0 ∷ 4 ∷ 0 ∷ 0 ∷ 0 ∷ 4 ∷ 0 ∷ 0 ∷ 0 ∷ 4 ∷ 0 ∷ []
 
-abbrev sample : Sample
-sample = record { dal = 0; reply = false; busy = false; compute = true; reset = false; ics = false; interrupts = 0 }
+-- each section after its count: the words, no rows, the state, the samples
+abbrev deck : List ℕ
+deck = (5 ∷ 0 ∷ words) ++ ((0 ∷ 0 ∷ 1 ∷ 0 ∷ before) ++ (5 ∷ 0 ∷ lines))
 
--- two places and a byte more, with other bytes in them, and a state buffer
+-- five places and a byte more, with other bytes in them, and a state buffer
 abbrev requests : List ℕ
-requests = replicate 9 9
+requests = replicate 21 9
 
 abbrev state : List ℕ
 state = replicate 41 9
 
-abbrev host : List ℕ → Hosted
-host s = hostOf (deckWith s) requests state
+abbrev host : Hosted
+host = hostOf deck requests state
 
--- ---- they are let in, and demand 3 speaks of them
+-- ---- it is let in, and demand 3 speaks of it
 
--- what is read of such a deck
-abbrev Read : List ℕ → Type 0
-Read s =
-    let deck = deckWith s in
-    (deckRefusalOf deck 9 41 ≡ 0) × (wordsPart deck ≡ words) × (rowsPart deck ≡ []) × (statePart deck ≡ s) × (deckSamples deck ≡ sample ∷ sample ∷ [])
+read : Read deck words before lines
+unfolding wholeOf layoutOf sectionEnd sectionOf
+read = record { whole = refl; words = refl; rows = refl; state = refl; samples = refl }
 
-read : Read before × Read between
-unfolding deckRefusalOf wholeOf layoutOf sectionEnd sectionOf stateInRange coreInRange addressInRange latchesInRange coreOf addressOf latchesOf wordsInRange rowsPartInRange samplesInRange rowsInRange rowsOf wordAt samplesFrom sampleAt
-read = ((refl, refl, refl, refl, refl), (refl, refl, refl, refl, refl))
+in-range : (stateInRange before ≡ true) × (wordsInRange words ≡ true) × (samplesInRange lines ≡ true)
+unfolding stateInRange coreInRange addressInRange latchesInRange coreOf addressOf latchesOf wordsInRange samplesInRange wordAt
+in-range = (refl, refl, refl)
 
--- by what the two differ in: the sign, and the state
-given : (sign : Sign) (s : List ℕ) → Read s → InPlace words (coreOf s .address .lc) (instructionsOf sign false cut) → Bytes (fileOf s)
-    → coreOf s .latches .marked ≡ false → coreOf s .latches .modification ≡ 0 → DeckGiven sign cut (deckWith s) requests state
-given sign s r in-place bytes unmarked unmodified =
+two : TwoCuts there back
+two =
     record {
-      accepted = r .0;
-      no-rows = r .2;
-      given = rw (r .1, r .3, r .4)
-          (record {
-            some = omega arith;
-            different = omega arith;
-            even = (refl, refl, tt);
-            words = omega arith;
-            in-place = in-place;
-            computing = (refl, refl, (refl, refl, tt));
-            file = file-length s;
-            bytes = bytes;
-            unmarked = unmarked;
-            unmodified = unmodified;
-            places = omega arith;
-          });
+      fair = record { some = omega arith; different = omega arith; even = (refl, refl, tt) };
+      even = tt;
+      same-targets = refl;
+      same-sources = refl;
     }
 
-sum-given : DeckGiven plus cut (deckWith before) requests state
-unfolding wordAt fileOf coreOf addressOf latchesOf
-sum-given = given plus before (read .0) (omega arith) (omega arith) refl refl
+ready : DeckReady (thereAndBack there back) deck requests state
+unfolding wordAt coreOf addressOf latchesOf samplesFrom sampleAt
+ready =
+    record {
+      bytes = bytes-tested deck refl;
+      accepted = let-in deck words before lines 21 read (in-range .0) (in-range .1) (in-range .2) (omega arith);
+      in-place = rw (read .words, read .state) (omega arith);
+      computing = rw (read .samples) (refl, refl, (refl, refl, (refl, refl, (refl, refl, (refl, refl, tt)))));
+      no-rows = read .rows;
+      unmarked = rw (read .state) refl;
+    }
 
-difference-given : DeckGiven minus cut (deckWith between) requests state
-unfolding wordAt fileOf coreOf addressOf latchesOf
-difference-given = given minus between (read .1) (omega arith) (omega arith) refl refl
+-- ---- so it ends as said above: five attempts and six microcycles, all registers as before, and the rest of the 41 bytes
 
--- ---- so the second begins with what the first hands back, and all registers are as before
+both : HostBackInOneRun there back deck requests host
+both = host-back-in-one-run there back deck requests state two ready
 
--- R2-R7, the flags, LC and RR as said above: the carry of the first word reached the second
-sum-state : host before .state ≡ between
-unfolding registerOf slotOf writtenOf addOf wordAt fileOf coreOf addressOf busOf latchesOf tailOf flagByteOf nibbleOf
-sum-state =
-    let deck = deckWith before in
-    ap (λ (h : Hosted). h .state) (handed plus cut deck requests state sum-given)
-    ∙ ap (λ (w : World). bytesOf (w .file) (w .core))
-    (run-steps plus cut (wordsPart deck) (deckSamples deck) (deckFile deck) (deckCore deck) requests (sum-given .given))
-    ∙ rw (read .0 .1, read .0 .3)
+report : host .report ≡ reported 0 5 6
+report = both .handed .report
 
--- all samples used, two attempts, three microcycles
-reports : (host before .report ≡ reported 0 2 3) × (host between .report ≡ reported 0 2 3)
-reports = (host-sum plus cut (deckWith before) requests state sum-given .report, host-sum minus cut (deckWith between) requests state difference-given .report)
+flags : flagByteOf (handedBack host .core .flags) ≡ 0xBA
+unfolding flagByteOf nibbleOf fileOf
+flags =
+    let f : Marked minus 3 0x01FF01 0x80FF02 0x80 (handedBack host .core .flags) = rw (read .state) at (both .run .restored .flags) in
+    rw (f .nb, f .zb, f .n, f .z, f .v, f .c8, f .c, f .c4)
 
-registers-back : handedBack (host between) .file ≡ fileOf before
-registers-back =
-    host-back cut (deckWith before) requests state (deckWith between) requests state sum-given (read .1 .3 ∙ sym sum-state) difference-given
-    ∙ ap fileOf (read .0 .3)
+-- what is said of the state says each of its 41 bytes
+all-bytes : (w : World) → flagByteOf (w .core .flags) ≡ 0xBA → BackInOneRun there back (wordsPart deck) (deckStart deck requests) w
+    → bytesOf (w .file) (w .core) ≡ after
+unfolding tailOf fileOf coreOf addressOf busOf latchesOf nibbleOf wordAt
+all-bytes w f b =
+    let c : BackInOneRun there back words (world (fileOf before) (coreOf before) 0 0 0 requests) w = rw (read .words, read .state) at b in
+    let a = c .advanced in
+    rw (f, a .lc, a .rr, a .tsr, a .bus, a .latches, c .restored .registers)
+
+state-after : host .state ≡ after
+state-after = both .handed .state ∙ all-bytes (handedBack host) flags (both .run)

@@ -1,32 +1,76 @@
 -- Demand 3 of what the bench host is handed back: `engine::run` is proved to give it `hostOf`. Assumes nothing.
-use Prim.Native.Nat.{ℕ}
-use mathlib.Core.Path.{_≡_, sym, ap, _∙_}
-use mathlib.Core.List.{List, []}
-use lib.ListN.{length}
-use Rattle.deck.proofs.Laws.{accepted}
-use Rattle.deck.specs.Sections.{wordsPart, rowsPart, statePart}
+use Prim.Native.Nat.{ℕ, suc, _+_, _*_, _/_, _≤_}
+use mathlib.Core.Path.{_≡_, refl, sym, ap, _∙_}
+use mathlib.Core.Bool.{false}
+use mathlib.Core.List.{List, [], _∷_}
+use native.Mathlib.Omega.{arith}
+use lib.ListN.{length, take}
+use lib.Seq.{take-append-le}
+use Rattle.deck.proofs.Laws.{accepted, section-bytes, word-below}
+use Rattle.deck.specs.Ranges.{Accepted}
+use Rattle.deck.specs.Sections.{layoutOf, wordsPart, rowsPart, statePart, samplesPart}
 use Rattle.engine.proofs.Hosts.{answers}
+use Rattle.engine.proofs.Runs.{samples-length}
 use Rattle.engine.specs.Host.{Hosted, hosted, reported, deckRun, hostOf}
-use Rattle.engine.specs.Run.{World, world, runFrom}
+use Rattle.engine.specs.Run.{World, runFrom}
 use Rattle.rows.specs.Section.{rowsOf}
-use Rattle.state_bytes.proofs.Laws.{stored-bytes, bytes-length, file-back, core-back}
-use Rattle.state_bytes.specs.Bytes.{bytesOf}
-use Rattle.sums.specs.Host.{deckSamples, deckFile, deckCore, DeckGiven, handedBack, HostSummed}
-use Rattle.sums.specs.Sums.{Cut, Sign, Summed}
+use Rattle.state.specs.Range.{InRange}
+use Rattle.state.specs.declared.Sample.{Sample}
+use Rattle.state_bytes.proofs.Laws.{stored-bytes, bytes-length, bytes-back, file-back, core-back, file-length, state-in-range}
+use Rattle.state_bytes.specs.Bytes.{fileOf, coreOf, bytesOf}
+use Rattle.sums.specs.Host.{deckSamples, deckStart, DeckReady, handedBack, Handed, HostSummed, HostBackInOneRun, HostBackInTwoRuns}
+use Rattle.sums.specs.Sums.{Cut, Sign, byteCount, instructionsOf, Computing, Fair, Ready, Advanced}
+use Rattle.sums.specs.Sums.{TwoCuts, thereAndBack, BackInOneRun, BackInTwoRuns}
 use Rattle.sums.specs.Sums.Sign.{plus, minus}
-use Rattle.sums.proofs.Theorem.{sum-theorem, back-theorem}
+use Rattle.sums.proofs.Theorem.{sum-theorem, back-in-one-run, back-in-two-runs}
 
 -- the deck's run, without rows
 abbrev sumRun : List ℕ → List ℕ → World
-sumRun deck requests = runFrom (wordsPart deck) [] (deckSamples deck) (world (deckFile deck) (deckCore deck) 0 0 0 requests)
+sumRun deck requests = runFrom (wordsPart deck) [] (deckSamples deck) (deckStart deck requests)
 
 run-is : (deck requests : List ℕ) → rowsPart deck ≡ [] → deckRun deck requests ≡ sumRun deck requests
 unfolding deckRun rowsOf
 run-is deck requests e = rw e
 
-module _ (sign : Sign) (cut : Cut) (deck requests state : List ℕ) (h : DeckGiven sign cut deck requests state) where
-  run-sums : Summed sign cut (wordsPart deck) (deckFile deck) (deckCore deck) requests (sumRun deck requests)
-  run-sums = sum-theorem sign cut (wordsPart deck) (deckSamples deck) (deckFile deck) (deckCore deck) requests (h .given)
+computing-length : (ss : List Sample) (is : List ℕ) → Computing ss is → length ss ≡ length is
+computing-length [] [] c = refl
+computing-length [] (i ∷ is) c = absurd c
+computing-length (s ∷ ss) [] c = absurd c
+computing-length (s ∷ ss) (i ∷ is) c = ap suc (computing-length ss is (c .2))
+
+-- the registers are the first bytes
+first-bytes : (s : List ℕ) → length s ≡ 41 → fileOf s ≡ take 26 s
+unfolding fileOf
+first-bytes s e = let enough : 26 ≤ length s = omega arith in rw take-append-le
+
+module _ (is deck requests state : List ℕ) (h : DeckReady is deck requests state) where
+  let-in : Accepted deck (length requests) (length state)
+  let-in = accepted deck (length requests) (length state) (h .accepted)
+
+  inside : InRange (fileOf (statePart deck)) (coreOf (statePart deck))
+  inside = state-in-range (statePart deck) (section-bytes deck (layoutOf deck .state) 41 (h .bytes)) (let-in .state)
+
+  pub state-size : length (statePart deck) ≡ 41
+  state-size =
+      let s = statePart deck in
+      ap length (sym (bytes-back s (section-bytes deck (layoutOf deck .state) 41 (h .bytes)) (let-in .state)))
+      ∙ bytes-length (fileOf s) (coreOf s) (file-length s)
+
+  -- what is not refused is in range and has a place for each request
+  pub ready : Ready is (wordsPart deck) (deckSamples deck) (deckStart deck requests)
+  ready =
+      let many = computing-length (deckSamples deck) is (h .computing) in
+      record {
+        words = word-below (wordsPart deck) (let-in .words);
+        file = inside .size;
+        bytes = inside .bytes;
+        lc = inside .lc;
+        places = omega (arith, many, samples-length (samplesPart deck) (length (samplesPart deck) / 4) 0, let-in .places);
+        in-place = h .in-place;
+        computing = h .computing;
+        unmarked = h .unmarked;
+        unmodified = inside .unmarked (h .unmarked);
+      }
 
   -- all that is handed back is of that run
   pub handed : let w = sumRun deck requests in
@@ -34,39 +78,87 @@ module _ (sign : Sign) (cut : Cut) (deck requests state : List ℕ) (h : DeckGiv
   handed =
       let w = sumRun deck requests in
       sym (answers deck requests state (h .accepted) w (sym (run-is deck requests (h .no-rows))))
-      ∙ ap (hosted (reported (w .answer) (w .attempts) (w .microcycles)) (w .buffer))
-      (stored-bytes (w .file) (w .core) state (accepted deck (length requests) (length state) (h .accepted) .buffer-length))
+      ∙ ap (hosted (reported (w .answer) (w .attempts) (w .microcycles)) (w .buffer)) (stored-bytes (w .file) (w .core) state (let-in .buffer-length))
 
-  -- its 41 bytes, read again, are that run's state
-  handed-back : handedBack (hostOf deck requests state) ≡ sumRun deck requests
-  handed-back =
-      let w = sumRun deck requests in
-      rw (handed, file-back (w .file) (w .core) (run-sums .file), core-back (w .file) (w .core) (run-sums .file))
+  module _ (size : length (sumRun deck requests .file) ≡ 26) where
+    -- its 41 bytes, read again, are that run's state
+    pub handed-back : handedBack (hostOf deck requests state) ≡ sumRun deck requests
+    handed-back =
+        let w = sumRun deck requests in
+        rw (handed, file-back (w .file) (w .core) size, core-back (w .file) (w .core) size)
 
-  -- a deck of a sum or of a difference is not refused, its answer is 0, the attempts are the cut's, the microcycles k, and the state is the one that
-  -- demand 3 asks for: always refusing, a fixed answer, a state that is left, and idling after the first attempt all fail here
-  pub host-sum : HostSummed sign cut deck requests (hostOf deck requests state)
-  host-sum =
-      let w = sumRun deck requests in
-      record {
-        report = ap (λ (x : Hosted). x .report) handed ∙ rw (run-sums .answer, run-sums .attempts, run-sums .microcycles);
-        summed = rw handed-back run-sums;
-        state = ap (λ (x : Hosted). x .state) handed ∙ sym (ap (λ (v : World). bytesOf (v .file) (v .core)) handed-back);
-        size = ap (λ (x : Hosted). length (x .state)) handed ∙ bytes-length (w .file) (w .core) (run-sums .file);
-      }
+    pub handed-as : (n c : ℕ) → Advanced n c (wordsPart deck) (deckStart deck requests) (sumRun deck requests) → Handed n c (hostOf deck requests state)
+    handed-as n c a =
+        let w = sumRun deck requests in
+        let attempts : w .attempts ≡ n = omega (arith, a .attempts) in
+        let spent : w .microcycles ≡ c = omega (arith, a .spent) in
+        record {
+          report = ap (λ (x : Hosted). x .report) handed ∙ rw (a .answer, attempts, spent);
+          state = ap (λ (x : Hosted). x .state) handed ∙ sym (ap (λ (v : World). bytesOf (v .file) (v .core)) handed-back);
+          size = ap (λ (x : Hosted). length (x .state)) handed ∙ bytes-length (w .file) (w .core) size;
+        }
 
--- the next deck has the state that was handed back, and the words of the difference: all registers are as before the sum
-pub host-back : (cut : Cut) (deck requests state deck′ requests′ state′ : List ℕ)
-    → DeckGiven plus cut deck requests state
-    → statePart deck′ ≡ hostOf deck requests state .state
-    → DeckGiven minus cut deck′ requests′ state′
-    → handedBack (hostOf deck′ requests′ state′) .file ≡ deckFile deck
-host-back cut deck requests state deck′ requests′ state′ h e h′ =
-    let w = sumRun deck requests in
-    let back = handed-back plus cut deck requests state h in
-    let file : deckFile deck′ ≡ w .file = rw e (ap (λ (x : World). x .file) back) in
-    let core : deckCore deck′ ≡ w .core = rw e (ap (λ (x : World). x .core) back) in
-    ap (λ (v : World). v .file) (handed-back minus cut deck′ requests′ state′ h′)
-    ∙ rw (file, core)
-    (back-theorem cut (wordsPart deck) (deckSamples deck) (deckFile deck) (deckCore deck) requests (wordsPart deck′) (deckSamples deck′) requests′ (h .given)
-    (rw (file, core) at (h′ .given)))
+-- a deck of a sum or of a difference is not refused, its answer is 0, the attempts are the cut's, the microcycles k, and the state is the one that
+-- demand 3 asks for: always refusing, a fixed answer, a state that is left, and idling after the first attempt all fail here
+pub host-sum : (sign : Sign) (cut : Cut) (deck requests state : List ℕ) → Fair cut → DeckReady (instructionsOf sign false cut) deck requests state
+    → HostSummed sign cut deck requests (hostOf deck requests state)
+host-sum sign cut deck requests state f h =
+    let is = instructionsOf sign false cut in
+    let sum = sum-theorem sign cut (wordsPart deck) (deckSamples deck) (deckStart deck requests) f (ready is deck requests state h) in
+    record {
+      handed = handed-as is deck requests state h (sum .file) (length cut) (byteCount cut) (sum .advanced);
+      summed = rw (handed-back is deck requests state h (sum .file)) sum;
+    }
+
+-- ---- subtracting after adding
+
+-- registers that are the deck's again as a state are so as bytes
+same-bytes : (s t : List ℕ) → length s ≡ 41 → length t ≡ 41 → fileOf s ≡ fileOf t → take 26 s ≡ take 26 t
+same-bytes s t l l′ e = sym (first-bytes s l) ∙ e ∙ first-bytes t l′
+
+-- one deck with the words of both
+pub host-back-in-one-run : (there back : Cut) (deck requests state : List ℕ) → TwoCuts there back → DeckReady (thereAndBack there back) deck requests state
+    → HostBackInOneRun there back deck requests (hostOf deck requests state)
+host-back-in-one-run there back deck requests state two h =
+    let is = thereAndBack there back in
+    let start = deckStart deck requests in
+    let both = back-in-one-run there back (wordsPart deck) (deckSamples deck) start two (ready is deck requests state h) in
+    let size : length (sumRun deck requests .file) ≡ 26 = ap length (both .restored .registers) ∙ file-length (statePart deck) in
+    let over = handed-as is deck requests state h size (length there + length back) (2 * byteCount there) (both .advanced) in
+    let run : BackInOneRun there back (wordsPart deck) start (handedBack (hostOf deck requests state))
+    = rw (handed-back is deck requests state h size) both in
+    record {
+      handed = over;
+      registers = same-bytes _ _ (over .size) (state-size is deck requests state h) (run .restored .registers);
+      run = run;
+    }
+
+-- a deck with the words of the sum; and the next, with those of the difference and with the registers that were handed back
+pub host-back-in-two-runs : (there back : Cut) (deck requests state deck′ requests′ state′ : List ℕ) → TwoCuts there back
+    → DeckReady (instructionsOf plus false there) deck requests state
+    → take 26 (statePart deck′) ≡ take 26 (hostOf deck requests state .state)
+    → DeckReady (instructionsOf minus false back) deck′ requests′ state′
+    → HostBackInTwoRuns there back deck requests deck′ requests′ (hostOf deck′ requests′ state′)
+host-back-in-two-runs there back deck requests state deck′ requests′ state′ two h e h′ =
+    let is = instructionsOf plus false there in
+    let is′ = instructionsOf minus false back in
+    let start = deckStart deck requests in
+    let start′ = deckStart deck′ requests′ in
+    let sum = sum-theorem plus there (wordsPart deck) (deckSamples deck) start (two .fair) (ready is deck requests state h) in
+    let first = handed-as is deck requests state h (sum .file) (length there) (byteCount there) (sum .advanced) in
+    let again : fileOf (statePart deck′) ≡ sumRun deck requests .file
+    = first-bytes (statePart deck′) (state-size is′ deck′ requests′ state′ h′)
+    ∙ e
+    ∙ sym (first-bytes (hostOf deck requests state .state) (first .size))
+    ∙ ap (λ (w : World). w .file) (handed-back is deck requests state h (sum .file)) in
+    let both = back-in-two-runs there back (wordsPart deck) (deckSamples deck) start (wordsPart deck′) (deckSamples deck′) start′ two
+    (ready is deck requests state h) again (ready is′ deck′ requests′ state′ h′) in
+    let size : length (sumRun deck′ requests′ .file) ≡ 26 = ap length (both .restored .registers) ∙ file-length (statePart deck) in
+    let over = handed-as is′ deck′ requests′ state′ h′ size (length back) (byteCount there) (both .advanced) in
+    let run : BackInTwoRuns there back (wordsPart deck′) start start′ (handedBack (hostOf deck′ requests′ state′))
+    = rw (handed-back is′ deck′ requests′ state′ h′ size) both in
+    record {
+      handed = over;
+      registers = same-bytes _ _ (over .size) (state-size is deck requests state h) (run .restored .registers);
+      run = run;
+    }

@@ -7,7 +7,11 @@ pub mod Chain
 pub mod Numbers
 pub mod Given
 pub mod Summed
+pub mod Further
+pub mod Back
 pub mod Theorem
+pub mod Seven
 pub mod Host
+pub mod Read
 pub mod Deck
 pub mod Example

@@ -51,7 +51,7 @@ last-is sign y (p ∷ ps) (q ∷ qs) c e h k =
 -- ---- the number, C and V
 
 -- what is left of a number below w when multiples of w go
-remainder : (r w s t : ℕ) → r < w → r + w * t ≡ s → s % w ≡ r
+pub remainder : (r w s t : ℕ) → r < w → r + w * t ≡ s → s % w ≡ r
 remainder r w s t h e = ap (λ (n : ℕ). n % w) (sym e) ∙ add-mul-mod-self-left r w t ∙ mod-eq-of-lt h
 
 module _ (ps qs : List ℕ) (bp : Bytes ps) (bq : Bytes qs) (e : length ps ≡ length qs) where

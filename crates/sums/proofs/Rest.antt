@@ -46,9 +46,13 @@ put-there b at i d lo hi h =
 -- ---- all steps
 
 module _ (sign : Sign) (ws : List ℕ) where
-  pub answer-is : (later : Bool) (cut : Cut) (w : World) → w .answer ≡ 0 → after sign later cut ws w .answer ≡ 0
-  answer-is later [] w e = e
-  answer-is later (t ∷ ts) w e = answer-is true ts (stepOn sign later t ws w) refl
+  answer-kept : (later : Bool) (cut : Cut) (w : World) → w .answer ≡ 0 → after sign later cut ws w .answer ≡ 0
+  answer-kept later [] w e = e
+  answer-kept later (t ∷ ts) w e = answer-kept true ts (stepOn sign later t ws w) refl
+
+  pub answer-is : (later : Bool) (cut : Cut) (w : World) → 1 ≤ length cut → after sign later cut ws w .answer ≡ 0
+  answer-is later [] w h = absurd (omega arith)
+  answer-is later (t ∷ ts) w h = answer-kept true ts (stepOn sign later t ws w) refl
 
   pub attempts-are : (later : Bool) (cut : Cut) (w : World) → after sign later cut ws w .attempts ≡ w .attempts + length cut
   attempts-are later [] w = omega arith
@@ -66,7 +70,7 @@ module _ (sign : Sign) (ws : List ℕ) where
   lc-is later (t ∷ ts) w h = lc-is true ts (stepOn sign later t ws w) (omega arith) ∙ omega arith
 
   pub rr-is : (later : Bool) (cut : Cut) (w : World)
-      → after sign later cut ws w .core .address .rr ≡ rrAfter ws (w .core .address .lc) cut (w .core .address .rr)
+      → after sign later cut ws w .core .address .rr ≡ rrAfter ws (w .core .address .lc) (length cut) (w .core .address .rr)
   rr-is later [] w = refl
   rr-is later (t ∷ ts) w = rr-is true ts (stepOn sign later t ws w)
 

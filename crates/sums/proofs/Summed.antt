@@ -1,28 +1,29 @@
 -- What a cut's steps leave is what demand 3 says: the run's parts put together. Assumes nothing.
-use Prim.Native.Nat.{ℕ, _-_, _≤_}
-use mathlib.Core.Path.{_≡_, refl, ap, sym, subst⁻¹, _∙_}
+use Prim.Native.Nat.{ℕ, _+_, _-_, _*_, _≤_}
+use mathlib.Core.Path.{_≡_, refl, ap, sym, _∙_}
 use mathlib.Core.Bool.{Bool, true, false, Bool·not-not}
-use mathlib.Core.List.{List, [], _∷_}
+use mathlib.Core.List.{List, [], _∷_, _++_}
 use native.Mathlib.Omega.{arith}
 use lib.Dec.{eqb, leb}
-use lib.ListN.{length, getD}
+use lib.ListN.{length, getD, drop}
 use Rattle.alu.proofs.Laws.{sum-bytes}
 use Rattle.alu.specs.Numbers.{value, sumBytes, half}
 use Rattle.alu.specs.declared.Cycle.{Cycle}
 use Rattle.alu.specs.declared.Flags.{Flags}
-use Rattle.engine.specs.Run.{World, world, runFrom}
+use Rattle.state.specs.File.{Leaves, leaves}
+use Rattle.engine.specs.Run.{World, runFrom}
 use Rattle.state.specs.declared.Core.{Core}
+use Rattle.state.specs.declared.Latches.{Latches}
 use Rattle.state.specs.declared.Sample.{Sample}
-use Rattle.sums.specs.Sums.{Cut, Sign, targets, sources, byteCount, Given, Summed, registersAt, targetBytes, sourceBytes, targetIn, resultOf, cOf, vOf, c8Of, c4Of, lastTargets}
+use Rattle.sums.specs.Sums.{Cut, Sign, targets, sources, byteCount, instructionsOf, Fair, Ready, Marked, Advanced, Summed, registersAt, targetIn, lastIn, resultOf, cOf, vOf, c8Of, c4Of, lastTargets}
 use Rattle.sums.specs.Sums.Sign.{plus, minus}
 use Rattle.sums.proofs.Codes.{carryIn}
 use Rattle.sums.proofs.Cycles.{oddCodeFlags}
-use Rattle.sums.proofs.Run.{after, run-is}
+use Rattle.sums.proofs.Run.{after, run-is, place-left, samples-left}
 use Rattle.sums.proofs.Rest.{answer-is, attempts-are, microcycles-are, lc-is, rr-is, kept-is, latches-are, room-is, requests-other, requests-there}
-use Rattle.sums.proofs.Chain.{added, cutMade, made-is, chainFile, file-is, flags-are, chain-length, chain-bytes, chain-other, chain-source, Separate, separate, chain-target, lastCycle, chain-last, zero-is}
+use Rattle.sums.proofs.Chain.{added, cutMade, made-is, chainFile, file-is, flags-are, chain-length, chain-bytes, chain-other, Separate, separate, chain-target, lastCycle, chain-last, zero-is}
 use Rattle.sums.proofs.Numbers.{Last, last-is, result-law, c-law, last-v-law, c4-law, lastByte, sign-law}
-use Rattle.sums.proofs.Given.{low-left, low-right, all-fit, same-length, some-bytes, registers-length, registers-bytes, lc-below}
-use Rattle.state.specs.File.{Leaves, leaves}
+use Rattle.sums.proofs.Given.{direct-left, direct-right, all-fit, words-length, same-length, some-steps, registers-length, registers-bytes}
 
 -- ---- flags, whatever they were before the first step
 
@@ -31,22 +32,22 @@ abbrev before : Sign → Cycle
 before sign = record { result = 0; c4 = false; c8 = carryIn sign; v = false; c = c8Of sign (carryIn sign) }
 
 -- the last of a cut's cycles
-abbrev lastOf : Sign → List ℕ → ℕ → Cut → Cycle
-lastOf sign xs g cut = lastCycle sign (before sign) (registersAt xs g (targets cut)) (registersAt xs g (sources cut)) (carryIn sign)
+abbrev lastOf : Sign → List ℕ → Cut → Cycle
+lastOf sign xs cut = lastCycle sign (before sign) (registersAt xs (targets cut)) (registersAt xs (sources cut)) (carryIn sign)
 
-flags-from : (sign : Sign) (xs : List ℕ) (g : ℕ) (cut : Cut) (f : Flags) → 1 ≤ length cut → Separate g (targets cut) (sources cut)
-    → cutMade sign xs g (carryIn sign) cut f .back ≡ oddCodeFlags (lastOf sign xs g cut) (cutMade sign xs g (carryIn sign) cut f .back .z)
-flags-from sign xs g [] f some h = absurd (omega arith)
-flags-from sign xs g (t ∷ ts) f some h =
-    flags-are sign xs g (carryIn sign) (t ∷ ts) (oddCodeFlags (before sign) false) (before sign) refl
-    ∙ ap (λ (y : Cycle). oddCodeFlags y (cutMade sign xs g (carryIn sign) (t ∷ ts) f .back .z))
-    (chain-last sign (before sign) xs g (carryIn sign) (targets (t ∷ ts)) (sources (t ∷ ts)) h)
+flags-from : (sign : Sign) (xs : List ℕ) (cut : Cut) (f : Flags) → 1 ≤ length cut → Separate (targets cut) (sources cut)
+    → cutMade sign xs (carryIn sign) cut f .back ≡ oddCodeFlags (lastOf sign xs cut) (cutMade sign xs (carryIn sign) cut f .back .z)
+flags-from sign xs [] f some h = absurd (omega arith)
+flags-from sign xs (t ∷ ts) f some h =
+    flags-are sign xs (carryIn sign) (t ∷ ts) (oddCodeFlags (before sign) false) (before sign) refl
+    ∙ ap (λ (y : Cycle). oddCodeFlags y (cutMade sign xs (carryIn sign) (t ∷ ts) f .back .z))
+    (chain-last sign (before sign) xs (carryIn sign) (targets (t ∷ ts)) (sources (t ∷ ts)) h)
 
-zero-from : (sign : Sign) (xs : List ℕ) (g : ℕ) (cut : Cut) (f : Flags) → 1 ≤ length cut → length xs ≡ 26 → Separate g (targets cut) (sources cut)
-    → cutMade sign xs g (carryIn sign) cut f .back .z
-    ≡ eqb (value (registersAt (cutMade sign xs g (carryIn sign) cut f .file) g (lastTargets [] cut))) 0
-zero-from sign xs g [] f some l h = absurd (omega arith)
-zero-from sign xs g (t ∷ ts) f some l h = zero-is sign xs g (carryIn sign) (t ∷ ts) (oddCodeFlags (before sign) true) [] l h refl
+zero-from : (sign : Sign) (xs : List ℕ) (cut : Cut) (f : Flags) → 1 ≤ length cut → length xs ≡ 26 → Separate (targets cut) (sources cut)
+    → cutMade sign xs (carryIn sign) cut f .back .z
+    ≡ eqb (value (registersAt (cutMade sign xs (carryIn sign) cut f .file) (lastTargets [] cut))) 0
+zero-from sign xs [] f some l h = absurd (omega arith)
+zero-from sign xs (t ∷ ts) f some l h = zero-is sign xs (carryIn sign) (t ∷ ts) (oddCodeFlags (before sign) true) [] l h refl
 
 c8-twice : (sign : Sign) (t : Bool) → c8Of sign (c8Of sign t) ≡ t
 c8-twice plus t = refl
@@ -54,110 +55,143 @@ c8-twice minus t = Bool·not-not t
 
 -- ---- all of it
 
--- the world after the steps
-abbrev stepsOf : Sign → Cut → List ℕ → List ℕ → Core → List ℕ → World
-stepsOf sign cut ws xs k buffer = after sign false cut ws (world xs k 0 0 0 buffer)
+-- a cut's words, whatever other instructions follow
+module _ (sign : Sign) (cut : Cut) (is ws : List ℕ) (ss : List Sample) (v : World)
+    (h : Ready (instructionsOf sign false cut ++ is) ws ss v) (f : Fair cut) where
+  -- the world after them
+  abbrev w : World
+  w = after sign false cut ws v
 
-module _ (sign : Sign) (cut : Cut) (ws : List ℕ) (ss : List Sample) (xs : List ℕ) (k : Core) (buffer : List ℕ) (h : Given sign cut ws ss xs k buffer) where
-  pub run-steps : runFrom ws [] ss (world xs k 0 0 0 buffer) ≡ stepsOf sign cut ws xs k buffer
-  run-steps =
-      let fit = all-fit cut (low-left (targets cut) (sources cut) (h .different)) (low-right (targets cut) (sources cut) (h .different)) (h .even) in
-      run-is sign false cut ws ss (world xs k 0 0 0 buffer) (h .words) fit (h .in-place) (h .computing) (h .unmarked)
+  abbrev ps : List ℕ
+  ps = registersAt (v .file) (targets cut)
 
-  apart : Separate (k .latches .g) (targets cut) (sources cut)
-  apart = separate (k .latches .g) (targets cut) (sources cut) (h .different)
+  abbrev qs : List ℕ
+  qs = registersAt (v .file) (sources cut)
 
-  pub same-bytes : length (targetBytes xs k cut) ≡ length (sourceBytes xs k cut)
-  same-bytes = registers-length xs (k .latches .g) (targets cut) ∙ same-length cut ∙ sym (registers-length xs (k .latches .g) (sources cut))
+  apart : Separate (targets cut) (sources cut)
+  apart = separate (targets cut) (sources cut) (f .different)
 
-  made-after : leaves (stepsOf sign cut ws xs k buffer .file) (stepsOf sign cut ws xs k buffer .core .flags)
-      ≡ cutMade sign xs (k .latches .g) (carryIn sign) cut (k .flags)
-  made-after = made-is sign false cut ws (world xs k 0 0 0 buffer)
+  same-bytes : length ps ≡ length qs
+  same-bytes = registers-length (v .file) (targets cut) ∙ same-length cut ∙ sym (registers-length (v .file) (sources cut))
 
-  file-after : stepsOf sign cut ws xs k buffer .file ≡ chainFile sign xs (k .latches .g) (carryIn sign) (targets cut) (sources cut)
-  file-after = ap (λ (m : Leaves Flags). m .file) made-after ∙ file-is sign xs (k .latches .g) (carryIn sign) cut (k .flags)
+  made-after : leaves (w .file) (w .core .flags) ≡ cutMade sign (v .file) (carryIn sign) cut (v .core .flags)
+  made-after = made-is sign false cut ws v
 
-  bytes-after : targetBytes (stepsOf sign cut ws xs k buffer .file) k cut ≡ sumBytes (targetBytes xs k cut) (added sign (sourceBytes xs k cut)) (carryIn sign)
+  file-after : w .file ≡ chainFile sign (v .file) (carryIn sign) (targets cut) (sources cut)
+  file-after = ap (λ (m : Leaves Flags). m .file) made-after ∙ file-is sign (v .file) (carryIn sign) cut (v .core .flags)
+
+  bytes-after : registersAt (w .file) (targets cut) ≡ sumBytes ps (added sign qs) (carryIn sign)
   bytes-after =
-      ap (λ (ys : List ℕ). targetBytes ys k cut) file-after
-      ∙ chain-target sign xs (k .latches .g) (carryIn sign) (targets cut) (sources cut) (h .file) (same-length cut) apart
+      ap (λ (ys : List ℕ). registersAt ys (targets cut)) file-after
+      ∙ chain-target sign (v .file) (carryIn sign) (targets cut) (sources cut) (h .file) (same-length cut) apart
 
-  flags-after : stepsOf sign cut ws xs k buffer .core .flags
-      ≡ oddCodeFlags (lastOf sign xs (k .latches .g) cut) (cutMade sign xs (k .latches .g) (carryIn sign) cut (k .flags) .back .z)
-  flags-after = ap (λ (m : Leaves Flags). m .back) made-after ∙ flags-from sign xs (k .latches .g) cut (k .flags) (h .some) apart
+  flags-after : w .core .flags
+      ≡ oddCodeFlags (lastOf sign (v .file) cut) (cutMade sign (v .file) (carryIn sign) cut (v .core .flags) .back .z)
+  flags-after = ap (λ (m : Leaves Flags). m .back) made-after ∙ flags-from sign (v .file) cut (v .core .flags) (some-steps cut (f .some)) apart
 
-  zero-after : stepsOf sign cut ws xs k buffer .core .flags .z
-      ≡ eqb (value (registersAt (stepsOf sign cut ws xs k buffer .file) (k .latches .g) (lastTargets [] cut))) 0
+  zero-after : w .core .flags .z ≡ eqb (lastIn (w .file) cut) 0
   zero-after =
       ap (λ (m : Leaves Flags). m .back .z) made-after
-      ∙ zero-from sign xs (k .latches .g) cut (k .flags) (h .some) (h .file) apart
-      ∙ ap (λ (m : Leaves Flags). eqb (value (registersAt (m .file) (k .latches .g) (lastTargets [] cut))) 0) (sym made-after)
+      ∙ zero-from sign (v .file) cut (v .core .flags) (some-steps cut (f .some)) (h .file) apart
+      ∙ ap (λ (m : Leaves Flags). eqb (lastIn (m .file) cut) 0) (sym made-after)
 
-  last-after : Last sign (before sign) (targetBytes xs k cut) (sourceBytes xs k cut) (carryIn sign) (lastOf sign xs (k .latches .g) cut)
-  last-after = last-is sign (before sign) (targetBytes xs k cut) (sourceBytes xs k cut) (carryIn sign) same-bytes refl refl
+  last-after : Last sign (before sign) ps qs (carryIn sign) (lastOf sign (v .file) cut)
+  last-after = last-is sign (before sign) ps qs (carryIn sign) same-bytes refl refl
 
-  sign-after : stepsOf sign cut ws xs k buffer .core .flags .n ≡ leb (half (byteCount cut - 1)) (targetIn (stepsOf sign cut ws xs k buffer .file) k cut)
+  count : length ps ≡ byteCount cut
+  count = registers-length (v .file) (targets cut)
+
+  target-after : targetIn (w .file) cut ≡ resultOf sign (byteCount cut) (value ps) (value qs)
+  target-after =
+      ap value bytes-after
+      ∙ result-law ps qs (registers-bytes (v .file) (targets cut) (h .bytes)) (registers-bytes (v .file) (sources cut) (h .bytes)) same-bytes sign
+      ∙ ap (λ (i : ℕ). resultOf sign i (value ps) (value qs)) count
+
+  sign-after : w .core .flags .n ≡ leb (half (byteCount cut - 1)) (resultOf sign (byteCount cut) (value ps) (value qs))
   sign-after =
-      let ys = stepsOf sign cut ws xs k buffer .file in
-      let n = registers-length ys (k .latches .g) (targets cut) in
-      let b = sum-bytes (targetBytes xs k cut) (added sign (sourceBytes xs k cut)) (carryIn sign) in
-      ap (λ (f : Flags). f .n) flags-after
+      let rs = registersAt (w .file) (targets cut) in
+      let n : length rs ≡ byteCount cut = registers-length (w .file) (targets cut) in
+      let b = sum-bytes ps (added sign qs) (carryIn sign) in
+      ap (λ (x : Flags). x .n) flags-after
       ∙ ap (leb 128) (last-after .result ∙ ap (lastByte 0) (sym bytes-after))
-      ∙ sign-law 0 (targetBytes ys k cut) (rw bytes-after b) (omega (arith, some-bytes cut (h .some)))
-      ∙ ap (λ (i : ℕ). leb (half (i - 1)) (targetIn ys k cut)) n
+      ∙ sign-law 0 rs (rw bytes-after b) (omega (arith, f .some))
+      ∙ ap (λ (i : ℕ). leb (half (i - 1)) (value rs)) n
+      ∙ ap (leb (half (byteCount cut - 1))) target-after
 
-  summed-after : Summed sign cut ws xs k buffer (stepsOf sign cut ws xs k buffer)
-  summed-after =
-      let g = k .latches .g in
-      let from = world xs k 0 0 0 buffer in
-      let ps = targetBytes xs k cut in
-      let qs = sourceBytes xs k cut in
-      let bp = registers-bytes xs g (targets cut) (h .bytes) in
-      let bq = registers-bytes xs g (sources cut) (h .bytes) in
-      let n = registers-length xs g (targets cut) in
-      let some : 1 ≤ length ps = omega (arith, some-bytes cut (h .some)) in
+  marked-after : Marked sign (byteCount cut) (value ps) (value qs) (lastIn (w .file) cut) (w .core .flags)
+  marked-after =
+      let bp = registers-bytes (v .file) (targets cut) (h .bytes) in
+      let bq = registers-bytes (v .file) (sources cut) (h .bytes) in
+      let some : 1 ≤ length ps = omega (arith, f .some, count) in
       record {
-        answer = answer-is sign ws false cut from refl;
-        attempts = attempts-are sign ws false cut from ∙ omega arith;
-        microcycles = microcycles-are sign ws false cut from ∙ omega arith;
-        target = ap value bytes-after ∙ result-law ps qs bp bq same-bytes sign ∙ ap (λ (i : ℕ). resultOf sign i (value ps) (value qs)) n;
         c =
-            ap (λ (f : Flags). f .c) flags-after ∙ last-after .c-flag ∙ ap (c8Of sign) (last-after .c8) ∙ c-law ps qs bp bq same-bytes sign
-            ∙ ap (λ (i : ℕ). cOf sign i (value ps) (value qs)) n;
+            ap (λ (x : Flags). x .c) flags-after ∙ last-after .c-flag ∙ ap (c8Of sign) (last-after .c8) ∙ c-law ps qs bp bq same-bytes sign
+            ∙ ap (λ (i : ℕ). cOf sign i (value ps) (value qs)) count;
         v =
-            ap (λ (f : Flags). f .v) flags-after ∙ last-after .v ∙ last-v-law sign ps qs false bp bq same-bytes some
-            ∙ ap (λ (i : ℕ). vOf sign i (value ps) (value qs)) n;
+            ap (λ (x : Flags). x .v) flags-after ∙ last-after .v ∙ last-v-law sign ps qs false bp bq same-bytes some
+            ∙ ap (λ (i : ℕ). vOf sign i (value ps) (value qs)) count;
         c8 =
-            ap (λ (f : Flags). f .c8) flags-after ∙ sym (c8-twice sign _)
-            ∙ ap (c8Of sign) (sym (ap (λ (f : Flags). f .c) flags-after ∙ last-after .c-flag));
+            ap (λ (x : Flags). x .c8) flags-after ∙ sym (c8-twice sign _)
+            ∙ ap (c8Of sign) (sym (ap (λ (x : Flags). x .c) flags-after ∙ last-after .c-flag));
         c4 =
-            ap (λ (f : Flags). f .c4) flags-after ∙ last-after .c4 ∙ c4-law sign ps qs false bp bq same-bytes some
-            ∙ ap (λ (i : ℕ). c4Of sign i (value ps) (value qs)) n;
+            ap (λ (x : Flags). x .c4) flags-after ∙ last-after .c4 ∙ c4-law sign ps qs false bp bq same-bytes some
+            ∙ ap (λ (i : ℕ). c4Of sign i (value ps) (value qs)) count;
         n = sign-after;
-        nb = ap (λ (f : Flags). f .nb) flags-after ∙ sym (ap (λ (f : Flags). f .n) flags-after);
+        nb = ap (λ (x : Flags). x .nb) flags-after ∙ sym (ap (λ (x : Flags). x .n) flags-after);
         z = zero-after;
-        zb = ap (λ (f : Flags). f .zb) flags-after ∙ sym (ap (λ (f : Flags). f .z) flags-after);
-        source =
-            ap (λ (ys : List ℕ). sourceBytes ys k cut) file-after
-            ∙ chain-source sign xs g (carryIn sign) (targets cut) (sources cut) (sources cut) apart;
-        others = λ i o. ap (λ (ys : List ℕ). getD ys i 0) file-after ∙ chain-other sign xs g (carryIn sign) (targets cut) (sources cut) i o;
-        file = ap length file-after ∙ chain-length sign xs g (carryIn sign) (targets cut) (sources cut) ∙ h .file;
-        bytes = rw file-after (chain-bytes sign xs g (carryIn sign) (targets cut) (sources cut) (h .bytes));
-        lc = lc-is sign ws false cut from (lc-below sign cut ws (k .address .lc) (h .some) (h .words) (h .in-place));
-        rr = rr-is sign ws false cut from;
-        tsr = kept-is sign ws (λ (x : Core). x .address .tsr) (λ l t x. refl) false cut from;
-        bus = kept-is sign ws (λ (x : Core). x .bus) (λ l t x. refl) false cut from;
-        latches = latches-are sign ws false cut from (h .unmarked) (h .unmodified);
-        requests = λ i d l. requests-there sign ws false cut from i d (omega arith) (omega arith) (omega (arith, h .places));
-        untouched = λ i d l. requests-other sign ws false cut from i d (λ lo hi. absurd (omega arith));
-        room = room-is sign ws false cut from;
+        zb = ap (λ (x : Flags). x .zb) flags-after ∙ sym (ap (λ (x : Flags). x .z) flags-after);
       }
 
-  -- the run leaves it
-  pub summed : Summed sign cut ws xs k buffer (runFrom ws [] ss (world xs k 0 0 0 buffer))
-  summed = subst⁻¹ (λ (w : World). Summed sign cut ws xs k buffer w) run-steps summed-after
+  room : (v .attempts + (length cut + length is)) * 4 ≤ length (v .buffer)
+  room = rw (words-length sign false cut is) at (h .places)
 
-  -- byte by byte
-  pub summed-bytes : targetBytes (runFrom ws [] ss (world xs k 0 0 0 buffer) .file) k cut
-      ≡ sumBytes (targetBytes xs k cut) (added sign (sourceBytes xs k cut)) (carryIn sign)
-  summed-bytes = ap (λ (w : World). targetBytes (w .file) k cut) run-steps ∙ bytes-after
+  advanced-after : Advanced (length cut) (byteCount cut) ws v w
+  advanced-after =
+      record {
+        answer = answer-is sign ws false cut v (some-steps cut (f .some));
+        attempts = attempts-are sign ws false cut v;
+        spent = microcycles-are sign ws false cut v;
+        lc = lc-is sign ws false cut v (h .lc);
+        rr = rr-is sign ws false cut v;
+        tsr = kept-is sign ws (λ (x : Core). x .address .tsr) (λ l t x. refl) false cut v;
+        bus = kept-is sign ws (λ (x : Core). x .bus) (λ l t x. refl) false cut v;
+        latches = latches-are sign ws false cut v (h .unmarked) (h .unmodified);
+        requests = λ i d lo hi. requests-there sign ws false cut v i d lo (omega arith) (omega (arith, room));
+        earlier = λ i d l. requests-other sign ws false cut v i d (λ lo hi. absurd (omega arith));
+        later = λ i d l. requests-other sign ws false cut v i d (λ lo hi. absurd (omega arith));
+        room = room-is sign ws false cut v;
+      }
+
+  -- the run goes on from what demand 3 says of them
+  pub summed-after : Summed sign cut ws v w
+  summed-after =
+      record {
+        advanced = advanced-after;
+        target = target-after;
+        flags = marked-after;
+        others = λ i o. ap (λ (ys : List ℕ). getD ys i 0) file-after ∙ chain-other sign (v .file) (carryIn sign) (targets cut) (sources cut) i o;
+        file = ap length file-after ∙ chain-length sign (v .file) (carryIn sign) (targets cut) (sources cut) ∙ h .file;
+        bytes = rw file-after (chain-bytes sign (v .file) (carryIn sign) (targets cut) (sources cut) (h .bytes));
+      }
+
+  pub goes-on : runFrom ws [] ss v ≡ runFrom ws [] (drop (length cut) ss) w
+  goes-on =
+      let direct = direct-left (targets cut) (sources cut) (f .different) in
+      let sources-direct = direct-right (targets cut) (sources cut) (f .different) in
+      run-is sign ws is false cut ss v (h .words) (all-fit cut direct sources-direct (f .even)) (h .in-place) (h .computing) (h .unmarked)
+
+  -- and the other instructions can be run
+  pub ready-after : Ready is ws (drop (length cut) ss) w
+  ready-after =
+      let a = advanced-after in
+      record {
+        words = h .words;
+        file = summed-after .file;
+        bytes = summed-after .bytes;
+        lc = omega (arith, a .lc);
+        places = omega (arith, a .attempts, a .room, room);
+        in-place = place-left sign ws is false cut v (h .in-place);
+        computing = samples-left sign ws is false cut ss (h .computing);
+        unmarked = ap (λ (l : Latches). l .marked) (a .latches) ∙ h .unmarked;
+        unmodified = ap (λ (l : Latches). l .modification) (a .latches) ∙ h .unmodified;
+      }

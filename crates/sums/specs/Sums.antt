@@ -1,6 +1,6 @@
 -- Demand 3: two numbers of k bytes in registers are added or subtracted, low end first, by byte and pair instructions. Their words, what is given, and what a
 -- run leaves; proofs/Theorem.antt has the theorem.
-use Prim.Native.Nat.{ℕ, suc, _+_, _-_, _*_, _/_, _%_, _^_, _<_, _≤_}
+use Prim.Native.Nat.{ℕ, zero, suc, _+_, _-_, _*_, _/_, _%_, _^_, _<_, _≤_}
 use mathlib.Core.Path.{_≡_}
 use mathlib.Core.Bool.{Bool, true, false, not}
 use mathlib.Core.List.{List, [], _∷_, _++_}
@@ -8,12 +8,10 @@ use lib.Dec.{eqb, ltb, leb}
 use lib.ListN.{length, getD}
 use Rattle.alu.specs.Cycle.{sumOutside}
 use Rattle.alu.specs.Numbers.{value, half, differenceOutside}
+use Rattle.alu.specs.declared.Flags.{Flags}
 use Rattle.choose.specs.Ranged.{pick}
 use Rattle.numbers.specs.Numbers.{wordAt, Bytes}
-use Rattle.control.specs.Next.{plusOne}
 use Rattle.engine.specs.Run.{World}
-use Rattle.state.specs.File.{registerOf, slotOf}
-use Rattle.state.specs.declared.Core.{Core}
 use Rattle.state.specs.declared.Sample.{Sample}
 
 -- ---- the words
@@ -94,42 +92,74 @@ Even [] = Unit {0}
 Even (byte a b ∷ ts) = Even ts
 Even (pair a b ∷ ts) = (a % 2 ≡ 0) × (b % 2 ≡ 0) × Even ts
 
--- the words from an address on, not past the last one, have these bits 15-0, and any bits 21-16
+-- "LC+1 modulo 2,048": after 2047 comes 0
+abbrev pub following : ℕ → ℕ
+following at = (at + 1) % 2048
+
+-- the words in sequence from an address on have these bits 15-0, and any bits 21-16
 abbrev pub InPlace : List ℕ → ℕ → List ℕ → Type 0
 InPlace ws at [] = Unit {0}
-InPlace ws at (i ∷ is) =
-    (at < length ws / 4) × (wordAt ws at < 0x40_0000) × (wordAt ws at % 0x1_0000 ≡ i) × InPlace ws (at + 1) is
+InPlace ws at (i ∷ is) = (at < length ws / 4) × (wordAt ws at % 0x1_0000 ≡ i) × InPlace ws (following at) is
 
--- a sample for each step, COMPUTE high and RESET low
-abbrev pub Computing : List Sample → Cut → Type 0
+-- a sample for each word, COMPUTE high and RESET low
+abbrev pub Computing : List Sample → List ℕ → Type 0
 Computing [] [] = Unit {0}
-Computing [] (t ∷ ts) = ⊥
+Computing [] (i ∷ is) = ⊥
 Computing (s ∷ ss) [] = ⊥
-Computing (s ∷ ss) (t ∷ ts) = (s .compute ≡ true) × (s .reset ≡ false) × Computing ss ts
+Computing (s ∷ ss) (i ∷ is) = (s .compute ≡ true) × (s .reset ≡ false) × Computing ss is
 
--- demand 3's words, samples, state (registers, and the rest) and request buffer. No more than 7 bytes: there are 14 such registers
-pub record Given (sign : Sign) (cut : Cut) (ws : List ℕ) (ss : List Sample) (xs : List ℕ) (core : Core) (buffer : List ℕ) : Type 0 where
-  pub some : 1 ≤ length cut
+-- the registers of a cut: k from 1 (and to 7, as there are 14 such registers), "2k different directly addressed registers", even pairs
+pub record Fair (cut : Cut) : Type 0 where
+  pub some : 1 ≤ byteCount cut
   pub different : Different (targets cut ++ sources cut)
   pub even : Even cut
-  -- at most 2,048 words, with the cut's in sequence from LC
-  pub words : length ws / 4 ≤ 2048
-  pub in-place : InPlace ws (core .address .lc) (instructionsOf sign false cut)
-  pub computing : Computing ss cut
-  -- 26 registers, of a byte each; no waiting modification
-  pub file : length xs ≡ 26
-  pub bytes : Bytes xs
-  pub unmarked : core .latches .marked ≡ false
-  pub unmodified : core .latches .modification ≡ 0
-  -- a place of four bytes for each request
-  pub places : length cut * 4 ≤ length buffer
+
+-- the words of these instructions can be run, from a world v on
+pub record Ready (is ws : List ℕ) (ss : List Sample) (v : World) : Type 0 where
+  -- "all input in range": words of 22 bits, 26 registers of a byte each, LC from 0 to 2,047
+  pub words : (i : ℕ) → i < length ws / 4 → wordAt ws i < 0x40_0000
+  pub file : length (v .file) ≡ 26
+  pub bytes : Bytes (v .file)
+  pub lc : v .core .address .lc < 2048
+  -- "a place for each request", of four bytes, after those of earlier attempts
+  pub places : (v .attempts + length is) * 4 ≤ length (v .buffer)
+  -- "the words in sequence, one sample for each, .. COMPUTE high, RESET low"
+  pub in-place : InPlace ws (v .core .address .lc) is
+  pub computing : Computing ss is
+  -- "and no modification waiting"; it is "zero when unmarked"
+  pub unmarked : v .core .latches .marked ≡ false
+  pub unmodified : v .core .latches .modification ≡ 0
 
 -- ---- what the run leaves
 
--- the bytes in registers
-abbrev pub registersAt : List ℕ → ℕ → List ℕ → List ℕ
-registersAt xs g [] = []
-registersAt xs g (d ∷ ds) = registerOf xs g d ∷ registersAt xs g ds
+-- the bytes in directly addressed registers: after the twelve of "G0-GB, R2-RF" the file has R2 at 12
+abbrev pub placeOf : ℕ → ℕ
+placeOf d = 10 + d
+
+abbrev pub registersAt : List ℕ → List ℕ → List ℕ
+registersAt xs [] = []
+registersAt xs (d ∷ ds) = getD xs (placeOf d) 0 ∷ registersAt xs ds
+
+-- i is the place of none of these registers
+abbrev pub Elsewhere : ℕ → List ℕ → Type 0
+Elsewhere i [] = Unit {0}
+Elsewhere i (d ∷ ds) = (i ≡ placeOf d → ⊥) × Elsewhere i ds
+
+-- the numbers in the registers of the target and of the source
+abbrev pub targetIn : List ℕ → Cut → ℕ
+targetIn xs cut = value (registersAt xs (targets cut))
+
+abbrev pub sourceIn : List ℕ → Cut → ℕ
+sourceIn xs cut = value (registersAt xs (sources cut))
+
+-- the target's registers of the last step, and the number there
+abbrev pub lastTargets : List ℕ → Cut → List ℕ
+lastTargets ds [] = ds
+lastTargets ds (byte a b ∷ ts) = lastTargets (a ∷ []) ts
+lastTargets ds (pair a b ∷ ts) = lastTargets (a ∷ suc a ∷ []) ts
+
+abbrev pub lastIn : List ℕ → Cut → ℕ
+lastIn xs cut = value (registersAt xs (lastTargets [] cut))
 
 -- x + y or x - y modulo 256 ^ k; C, the carry or the borrow; V, that the signed number is outside -2^(8k-1) to 2^(8k-1) - 1
 abbrev pub resultOf : Sign → ℕ → ℕ → ℕ → ℕ
@@ -157,64 +187,79 @@ abbrev pub c4Of : Sign → ℕ → ℕ → ℕ → Bool
 c4Of plus k x y = leb (topDigit k) (x % topDigit k + y % topDigit k)
 c4Of minus k x y = leb (y % topDigit k) (x % topDigit k)
 
--- the target's registers of the last step
-abbrev pub lastTargets : List ℕ → Cut → List ℕ
-lastTargets ds [] = ds
-lastTargets ds (byte a b ∷ ts) = lastTargets (a ∷ []) ts
-lastTargets ds (pair a b ∷ ts) = lastTargets (a ∷ suc a ∷ []) ts
+-- the flags after x + y or x - y of k bytes, where the last step left a number: C and V; C8 the carry, C4 the carry into the highest digit, NB and N the
+-- result's sign, ZB and Z that the last step's bytes are 0
+pub record Marked (sign : Sign) (k x y last : ℕ) (f : Flags) : Type 0 where
+  pub c : f .c ≡ cOf sign k x y
+  pub v : f .v ≡ vOf sign k x y
+  pub c8 : f .c8 ≡ c8Of sign (f .c)
+  pub c4 : f .c4 ≡ c4Of sign k x y
+  pub n : f .n ≡ leb (half (k - 1)) (resultOf sign k x y)
+  pub nb : f .nb ≡ f .n
+  pub z : f .z ≡ eqb last 0
+  pub zb : f .zb ≡ f .z
 
--- "Bit 16 loads RR with LC+1 on every executed word"
-abbrev pub rrAfter : List ℕ → ℕ → Cut → ℕ → ℕ
-rrAfter ws at [] rr = rr
-rrAfter ws at (t ∷ ts) rr = rrAfter ws (plusOne at) ts (pick (eqb (wordAt ws at / 0x1_0000 % 2) 1) (plusOne at) rr)
+-- "Bit 16 loads RR with LC+1 on every executed word": RR after n words from an address on
+abbrev pub rrAfter : List ℕ → ℕ → ℕ → ℕ → ℕ
+rrAfter ws at zero rr = rr
+rrAfter ws at (suc n) rr = rrAfter ws (following at) n (pick (eqb (wordAt ws at / 0x1_0000 % 2) 1) (following at) rr)
 
--- i is the place of none of these registers
-abbrev pub Elsewhere : ℕ → ℕ → List ℕ → Type 0
-Elsewhere g i [] = Unit {0}
-Elsewhere g i (d ∷ ds) = (i ≡ slotOf g d → ⊥) × Elsewhere g i ds
-
--- what stands in the registers of the target, and of the source: bytes, and the number
-abbrev pub targetBytes : List ℕ → Core → Cut → List ℕ
-targetBytes xs core cut = registersAt xs (core .latches .g) (targets cut)
-
-abbrev pub sourceBytes : List ℕ → Core → Cut → List ℕ
-sourceBytes xs core cut = registersAt xs (core .latches .g) (sources cut)
-
-abbrev pub targetIn : List ℕ → Core → Cut → ℕ
-targetIn xs core cut = value (targetBytes xs core cut)
-
-abbrev pub sourceIn : List ℕ → Core → Cut → ℕ
-sourceIn xs core cut = value (sourceBytes xs core cut)
-
--- the world w that a run leaves of the registers xs, the rest of the state and a request buffer
-pub record Summed (sign : Sign) (cut : Cut) (ws : List ℕ) (xs : List ℕ) (core : Core) (buffer : List ℕ) (w : World) : Type 0 where
-  -- all samples used, an attempt for each step, a microcycle for each byte
+-- from v to w a run went on by n words, which took so many microcycles
+pub record Advanced (n microcycles : ℕ) (ws : List ℕ) (v w : World) : Type 0 where
+  -- all samples used, an attempt for each word
   pub answer : w .answer ≡ 0
-  pub attempts : w .attempts ≡ length cut
-  pub microcycles : w .microcycles ≡ byteCount cut
-  -- the target, C and V, by the two numbers that were there
-  pub target : targetIn (w .file) core cut ≡ resultOf sign (byteCount cut) (targetIn xs core cut) (sourceIn xs core cut)
-  pub c : w .core .flags .c ≡ cOf sign (byteCount cut) (targetIn xs core cut) (sourceIn xs core cut)
-  pub v : w .core .flags .v ≡ vOf sign (byteCount cut) (targetIn xs core cut) (sourceIn xs core cut)
-  -- the other flags: C8 the carry, C4 the carry into the highest digit, NB and N the target's sign, ZB and Z that the last step's bytes are 0
-  pub c8 : w .core .flags .c8 ≡ c8Of sign (w .core .flags .c)
-  pub c4 : w .core .flags .c4 ≡ c4Of sign (byteCount cut) (targetIn xs core cut) (sourceIn xs core cut)
-  pub n : w .core .flags .n ≡ leb (half (byteCount cut - 1)) (targetIn (w .file) core cut)
-  pub nb : w .core .flags .nb ≡ w .core .flags .n
-  pub z : w .core .flags .z ≡ eqb (value (registersAt (w .file) (core .latches .g) (lastTargets [] cut))) 0
-  pub zb : w .core .flags .zb ≡ w .core .flags .z
+  pub attempts : w .attempts ≡ v .attempts + n
+  pub spent : w .microcycles ≡ v .microcycles + microcycles
+  -- LC past the words, RR by bit 16; TSR; M, SYNC, IACK; G, TR, ICS, I4-I6, no modification
+  pub lc : w .core .address .lc ≡ (v .core .address .lc + n) % 2048
+  pub rr : w .core .address .rr ≡ rrAfter ws (v .core .address .lc) n (v .core .address .rr)
+  pub tsr : w .core .address .tsr ≡ v .core .address .tsr
+  pub bus : w .core .bus ≡ v .core .bus
+  pub latches : w .core .latches ≡ v .core .latches
+  -- requests of kind 0 in the next places, the other places untouched
+  pub requests : (i d : ℕ) → v .attempts * 4 ≤ i → i < (v .attempts + n) * 4 → getD (w .buffer) i d ≡ 0
+  pub earlier : (i d : ℕ) → i < v .attempts * 4 → getD (w .buffer) i d ≡ getD (v .buffer) i d
+  pub later : (i d : ℕ) → (v .attempts + n) * 4 ≤ i → getD (w .buffer) i d ≡ getD (v .buffer) i d
+  pub room : length (w .buffer) ≡ length (v .buffer)
+
+-- what the words of a cut leave: from v to w, an attempt for each step and a microcycle for each byte
+pub record Summed (sign : Sign) (cut : Cut) (ws : List ℕ) (v w : World) : Type 0 where
+  pub advanced : Advanced (length cut) (byteCount cut) ws v w
+  -- the target and the flags, by the two numbers that were there
+  pub target : targetIn (w .file) cut ≡ resultOf sign (byteCount cut) (targetIn (v .file) cut) (sourceIn (v .file) cut)
+  pub flags : Marked sign (byteCount cut) (targetIn (v .file) cut) (sourceIn (v .file) cut) (lastIn (w .file) cut) (w .core .flags)
   -- no other register changes, the source among them; the file stays in range
-  pub source : sourceBytes (w .file) core cut ≡ sourceBytes xs core cut
-  pub others : (i : ℕ) → Elsewhere (core .latches .g) i (targets cut) → getD (w .file) i 0 ≡ getD xs i 0
+  pub others : (i : ℕ) → Elsewhere i (targets cut) → getD (w .file) i 0 ≡ getD (v .file) i 0
   pub file : length (w .file) ≡ 26
   pub bytes : Bytes (w .file)
-  -- the rest: LC past the words, RR by bit 16; TSR; M, SYNC, IACK; G, TR, ICS, I4-I6, no modification
-  pub lc : w .core .address .lc ≡ (core .address .lc + length cut) % 2048
-  pub rr : w .core .address .rr ≡ rrAfter ws (core .address .lc) cut (core .address .rr)
-  pub tsr : w .core .address .tsr ≡ core .address .tsr
-  pub bus : w .core .bus ≡ core .bus
-  pub latches : w .core .latches ≡ core .latches
-  -- requests of kind 0 in the first places, the other places untouched
-  pub requests : (i d : ℕ) → i < length cut * 4 → getD (w .buffer) i d ≡ 0
-  pub untouched : (i d : ℕ) → length cut * 4 ≤ i → getD (w .buffer) i d ≡ getD buffer i d
-  pub room : length (w .buffer) ≡ length buffer
+
+-- ---- subtracting after adding, both cut as one likes
+
+-- the same registers, byte by byte, cut in two ways
+pub record TwoCuts (there back : Cut) : Type 0 where
+  pub fair : Fair there
+  pub even : Even back
+  pub same-targets : targets there ≡ targets back
+  pub same-sources : sources there ≡ sources back
+
+-- the words of both, one after the other
+abbrev pub thereAndBack : Cut → Cut → List ℕ
+thereAndBack there back = instructionsOf plus false there ++ instructionsOf minus false back
+
+-- from v, before both, to w, after both: no register of the 26 changes, so the target is back; the flags are those of the sum less the source
+pub record Back (there back : Cut) (v w : World) : Type 0 where
+  pub registers : w .file ≡ v .file
+  pub flags : let k = byteCount there in
+      let x = targetIn (v .file) there in
+      let y = sourceIn (v .file) there in
+      Marked minus k (resultOf plus k x y) y (lastIn (v .file) back) (w .core .flags)
+
+-- the same of one run of both: an attempt for each step of both, 2k microcycles
+pub record BackInOneRun (there back : Cut) (ws : List ℕ) (v w : World) : Type 0 where
+  pub restored : Back there back v w
+  pub advanced : Advanced (length there + length back) (2 * byteCount there) ws v w
+
+-- and of a run of the difference alone, from a world u with the registers that the sum left
+pub record BackInTwoRuns (there back : Cut) (ws : List ℕ) (v u w : World) : Type 0 where
+  pub restored : Back there back v w
+  pub advanced : Advanced (length back) (byteCount there) ws u w
