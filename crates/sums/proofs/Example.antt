@@ -6,8 +6,9 @@ use mathlib.Core.Bool.{true}
 use mathlib.Core.List.{List, [], _∷_, _++_}
 use native.Mathlib.Omega.{arith}
 use lib.ListN.{replicate}
+use borrow.Author.Tests.{ltb-true, leb-true}
 use Rattle.deck.specs.Elements.{sampleAt}
-use Rattle.deck.specs.Ranges.{wordsInRange, samplesInRange}
+use Rattle.deck.specs.Ranges.{samplesInRange}
 use Rattle.deck.specs.Sections.{sectionEnd, layoutOf, wholeOf, sectionOf, wordsPart}
 use Rattle.engine.specs.Host.{Hosted, reported, hostOf}
 use Rattle.engine.specs.Run.{World, world, samplesFrom}
@@ -16,12 +17,13 @@ use Rattle.state.specs.FlagByte.{flagByteOf, nibbleOf}
 use Rattle.state_bytes.specs.Bytes.{addressOf, busOf, latchesOf, coreOf, fileOf, tailOf, bytesOf}
 use Rattle.state_bytes.specs.Range.{addressInRange, latchesInRange, coreInRange, stateInRange}
 use Rattle.sums.specs.Host.{deckStart, DeckReady, handedBack, HostBackInOneRun}
-use Rattle.sums.specs.Sums.{Cut, Marked, TwoCuts, thereAndBack, BackInOneRun}
+use Rattle.sums.specs.Sums.{Cut, InPlace, Marked, TwoCuts, thereAndBack, BackInOneRun}
 use Rattle.sums.specs.Sums.Sign.{minus}
 use Rattle.sums.specs.Sums.Step.{byte, pair}
 use Rattle.sums.proofs.Given.{bytes-tested}
 use Rattle.sums.proofs.Host.{host-back-in-one-run}
 use Rattle.sums.proofs.Read.{Read, let-in}
+use Rattle.sums.proofs.Words.{words-tested}
 
 -- ---- the deck
 
@@ -32,22 +34,24 @@ there = byte 2 3 ∷ pair 4 6 ∷ []
 abbrev back : Cut
 back = byte 2 3 ∷ byte 4 6 ∷ byte 5 7 ∷ []
 
--- A132, AB64 with bit 16; and back, B132, B964, B975
+-- 2,048 words: A132 at 2046 and AB64 with bit 16 at 2047; and back, B132 at 0, B964 and B975
 abbrev words : List ℕ
-words = 0x32 ∷ 0xA1 ∷ 0 ∷ 0 ∷ 0x64 ∷ 0xAB ∷ 1 ∷ 0 ∷ 0x32 ∷ 0xB1 ∷ 0 ∷ 0 ∷ 0x64 ∷ 0xB9 ∷ 0 ∷ 0 ∷ 0x75 ∷ 0xB9 ∷ 0 ∷ 0 ∷ []
+words =
+    (0x32 ∷ 0xB1 ∷ 0 ∷ 0 ∷ 0x64 ∷ 0xB9 ∷ 0 ∷ 0 ∷ 0x75 ∷ 0xB9 ∷ 0 ∷ 0 ∷ [])
+    ++ (replicate 8172 0 ++ (0x32 ∷ 0xA1 ∷ 0 ∷ 0 ∷ 0x64 ∷ 0xAB ∷ 1 ∷ 0 ∷ []))
 
 -- a state of R2-R7, the flag byte, LC and RR; all else 0
-abbrev stateWith : ℕ → ℕ → ℕ → List ℕ
-stateWith flags lc rr =
-    (replicate 12 0 ++ ((0xFF ∷ 0x02 ∷ 0xFF ∷ 0x80 ∷ 0xFF ∷ 0x80 ∷ []) ++ replicate 8 0)) ++ (0 ∷ flags ∷ lc ∷ 0 ∷ rr ∷ 0 ∷ replicate 9 0)
+abbrev stateWith : ℕ → ℕ → ℕ → ℕ → List ℕ
+stateWith flags low high rr =
+    (replicate 12 0 ++ ((0xFF ∷ 0x02 ∷ 0xFF ∷ 0x80 ∷ 0xFF ∷ 0x80 ∷ []) ++ replicate 8 0)) ++ (0 ∷ flags ∷ low ∷ high ∷ rr ∷ 0 ∷ replicate 9 0)
 
--- 80FFFF and 80FF02, with C; their sum, 01FF01, has a carry and does not fit, and so has the way back a borrow and does not fit: N, V, C, NB and C4.
--- LC is past the five words, and RR by bit 16
+-- 80FFFF and 80FF02, with C, and LC 2046; their sum, 01FF01, has a carry and does not fit, so the way back has a borrow and does not fit: N, V, C, NB and
+-- C4. LC is past the fifth word, and RR, which was 9, the address after 2047 by bit 16
 abbrev before : List ℕ
-before = stateWith 0x10 0 0
+before = stateWith 0x10 0xFE 7 9
 
 abbrev after : List ℕ
-after = stateWith 0xBA 5 2
+after = stateWith 0xBA 3 0 0
 
 -- five samples with COMPUTE alone
 abbrev lines : List ℕ
@@ -55,7 +59,7 @@ lines = 0 ∷ 0 ∷ 4 ∷ 0 ∷ 0 ∷ 0 ∷ 4 ∷ 0 ∷ 0 ∷ 0 ∷ 4 ∷ 0 ∷ 
 
 -- each section after its count: the words, no rows, the state, the samples
 abbrev deck : List ℕ
-deck = (5 ∷ 0 ∷ words) ++ ((0 ∷ 0 ∷ 1 ∷ 0 ∷ before) ++ (5 ∷ 0 ∷ lines))
+deck = (0 ∷ 8 ∷ words) ++ ((0 ∷ 0 ∷ 1 ∷ 0 ∷ before) ++ (5 ∷ 0 ∷ lines))
 
 -- five places and a byte more, with other bytes in them, and a state buffer
 abbrev requests : List ℕ
@@ -73,9 +77,9 @@ read : Read deck words before lines
 unfolding wholeOf layoutOf sectionEnd sectionOf
 read = record { whole = refl; words = refl; rows = refl; state = refl; samples = refl }
 
-in-range : (stateInRange before ≡ true) × (wordsInRange words ≡ true) × (samplesInRange lines ≡ true)
-unfolding stateInRange coreInRange addressInRange latchesInRange coreOf addressOf latchesOf wordsInRange samplesInRange wordAt
-in-range = (refl, refl, refl)
+in-range : (stateInRange before ≡ true) × (samplesInRange lines ≡ true)
+unfolding stateInRange coreInRange addressInRange latchesInRange coreOf addressOf latchesOf samplesInRange
+in-range = (refl, refl)
 
 two : TwoCuts there back
 two =
@@ -86,13 +90,19 @@ two =
       same-sources = refl;
     }
 
+-- at 2046, 2047, 0, 1 and 2
+in-place : InPlace words 2046 (thereAndBack there back)
+unfolding wordAt
+in-place =
+    (ltb-true _ _ refl, refl, (ltb-true _ _ refl, refl, (ltb-true _ _ refl, refl, (ltb-true _ _ refl, refl, (ltb-true _ _ refl, refl, tt)))))
+
 ready : DeckReady (thereAndBack there back) deck requests state
 unfolding wordAt coreOf addressOf latchesOf samplesFrom sampleAt
 ready =
     record {
       bytes = bytes-tested deck refl;
-      accepted = let-in deck words before lines 21 read (in-range .0) (in-range .1) (in-range .2) (omega arith);
-      in-place = rw (read .words, read .state) (omega arith);
+      accepted = let-in deck words before lines 21 read (in-range .0) (words-tested words refl (leb-true _ _ refl)) (in-range .1) (omega arith);
+      in-place = rw (read .words, read .state) in-place;
       computing = rw (read .samples) (refl, refl, (refl, refl, (refl, refl, (refl, refl, (refl, refl, tt)))));
       no-rows = read .rows;
       unmarked = rw (read .state) refl;

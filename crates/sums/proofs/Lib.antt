@@ -12,6 +12,7 @@ pub mod Back
 pub mod Theorem
 pub mod Seven
 pub mod Host
+pub mod Words
 pub mod Read
 pub mod Deck
 pub mod Example
