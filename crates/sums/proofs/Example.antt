@@ -8,11 +8,11 @@ use native.Mathlib.Omega.{arith}
 use lib.ListN.{replicate}
 use borrow.Author.Tests.{ltb-true, leb-true}
 use Rattle.deck.specs.Elements.{sampleAt}
-use Rattle.deck.specs.Ranges.{samplesInRange}
+use Rattle.deck.specs.Ranges.{wordsInRange, samplesInRange}
 use Rattle.deck.specs.Sections.{sectionEnd, layoutOf, wholeOf, sectionOf, wordsPart}
 use Rattle.engine.specs.Host.{Hosted, reported, hostOf}
 use Rattle.engine.specs.Run.{World, world, samplesFrom}
-use Rattle.numbers.specs.Numbers.{wordAt}
+use Rattle.numbers.specs.Numbers.{wordAt, Bytes}
 use Rattle.state.specs.FlagByte.{flagByteOf, nibbleOf}
 use Rattle.state_bytes.specs.Bytes.{addressOf, busOf, latchesOf, coreOf, fileOf, tailOf, bytesOf}
 use Rattle.state_bytes.specs.Range.{addressInRange, latchesInRange, coreInRange, stateInRange}
@@ -35,7 +35,7 @@ abbrev back : Cut
 back = byte 2 3 ∷ byte 4 6 ∷ byte 5 7 ∷ []
 
 -- 2,048 words: A132 at 2046 and AB64 with bit 16 at 2047; and back, B132 at 0, B964 and B975
-abbrev words : List ℕ
+words : List ℕ
 words =
     (0x32 ∷ 0xB1 ∷ 0 ∷ 0 ∷ 0x64 ∷ 0xB9 ∷ 0 ∷ 0 ∷ 0x75 ∷ 0xB9 ∷ 0 ∷ 0 ∷ [])
     ++ (replicate 8172 0 ++ (0x32 ∷ 0xA1 ∷ 0 ∷ 0 ∷ 0x64 ∷ 0xAB ∷ 1 ∷ 0 ∷ []))
@@ -58,7 +58,7 @@ abbrev lines : List ℕ
 lines = 0 ∷ 0 ∷ 4 ∷ 0 ∷ 0 ∷ 0 ∷ 4 ∷ 0 ∷ 0 ∷ 0 ∷ 4 ∷ 0 ∷ 0 ∷ 0 ∷ 4 ∷ 0 ∷ 0 ∷ 0 ∷ 4 ∷ 0 ∷ []
 
 -- each section after its count: the words, no rows, the state, the samples
-abbrev deck : List ℕ
+deck : List ℕ
 deck = (0 ∷ 8 ∷ words) ++ ((0 ∷ 0 ∷ 1 ∷ 0 ∷ before) ++ (5 ∷ 0 ∷ lines))
 
 -- five places and a byte more, with other bytes in them, and a state buffer
@@ -74,7 +74,7 @@ host = hostOf deck requests state
 -- ---- it is let in, and demand 3 speaks of it
 
 read : Read deck words before lines
-unfolding wholeOf layoutOf sectionEnd sectionOf
+unfolding deck words wholeOf layoutOf sectionEnd sectionOf
 read = record { whole = refl; words = refl; rows = refl; state = refl; samples = refl }
 
 in-range : (stateInRange before ≡ true) × (samplesInRange lines ≡ true)
@@ -92,16 +92,24 @@ two =
 
 -- at 2046, 2047, 0, 1 and 2
 in-place : InPlace words 2046 (thereAndBack there back)
-unfolding wordAt
+unfolding words wordAt
 in-place =
     (ltb-true _ _ refl, refl, (ltb-true _ _ refl, refl, (ltb-true _ _ refl, refl, (ltb-true _ _ refl, refl, (ltb-true _ _ refl, refl, tt)))))
+
+words-in-range : wordsInRange words ≡ true
+unfolding words
+words-in-range = words-tested words refl (leb-true _ _ refl)
+
+bytes : Bytes deck
+unfolding deck words
+bytes = bytes-tested deck refl
 
 ready : DeckReady (thereAndBack there back) deck requests state
 unfolding wordAt coreOf addressOf latchesOf samplesFrom sampleAt
 ready =
     record {
-      bytes = bytes-tested deck refl;
-      accepted = let-in deck words before lines 21 read (in-range .0) (words-tested words refl (leb-true _ _ refl)) (in-range .1) (omega arith);
+      bytes = bytes;
+      accepted = let-in deck words before lines 21 read (in-range .0) words-in-range (in-range .1) (omega arith);
       in-place = rw (read .words, read .state) in-place;
       computing = rw (read .samples) (refl, refl, (refl, refl, (refl, refl, (refl, refl, (refl, refl, tt)))));
       no-rows = read .rows;
@@ -125,7 +133,7 @@ flags =
 -- what is said of the state says each of its 41 bytes
 all-bytes : (w : World) → flagByteOf (w .core .flags) ≡ 0xBA → BackInOneRun there back (wordsPart deck) (deckStart deck requests) w
     → bytesOf (w .file) (w .core) ≡ after
-unfolding tailOf fileOf coreOf addressOf busOf latchesOf nibbleOf wordAt
+unfolding words tailOf fileOf coreOf addressOf busOf latchesOf nibbleOf wordAt
 all-bytes w f b =
     let c : BackInOneRun there back words (world (fileOf before) (coreOf before) 0 0 0 requests) w = rw (read .words, read .state) at b in
     let a = c .advanced in

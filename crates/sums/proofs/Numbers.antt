@@ -8,7 +8,8 @@ use native.Mathlib.Nat.{add-zero, pow-succ', one-le-pow, mul-le-mul-left, le-pre
 use lib.Dec.{leb, ltb}
 use lib.ListN.{length}
 use borrow.Author.Tests.{ltb-true, ltb-false, leb-true, leb-false, le-leb, lt-leb}
-use Rattle.alu.proofs.Laws.{result-byte, byte-sum, sum-bytes, sum-length, value-below, sum-law, ones-bytes, ones-length, difference-law, carry-law, borrow-law, v-law, v-difference-law, ones-value, digit-from, step-up}
+use Rattle.alu.proofs.Laws.{result-byte, byte-sum, sum-bytes, sum-length, value-below, sum-law, ones-bytes, ones-length}
+use Rattle.alu.proofs.Laws.{difference-law, carry-law, borrow-law, v-law, v-difference-law, ones-value, digit-from, step-up}
 use Rattle.choose.specs.Ranged.{bit}
 use Rattle.alu.specs.Cycle.{addOf, sumOutside}
 use Rattle.alu.specs.Numbers.{value, sumBytes, carryOut, lastV, ones, half, differenceOutside}

@@ -15,13 +15,15 @@ use Rattle.engine.specs.Run.{World, runFrom}
 use Rattle.state.specs.declared.Core.{Core}
 use Rattle.state.specs.declared.Latches.{Latches}
 use Rattle.state.specs.declared.Sample.{Sample}
-use Rattle.sums.specs.Sums.{Cut, Sign, targets, sources, byteCount, instructionsOf, Fair, Ready, Marked, Advanced, Summed, registersAt, targetIn, lastIn, resultOf, cOf, vOf, c8Of, c4Of, lastTargets}
+use Rattle.sums.specs.Sums.{Cut, Sign, targets, sources, byteCount, instructionsOf, Fair, Ready, Marked, Advanced}
+use Rattle.sums.specs.Sums.{Summed, registersAt, targetIn, lastIn, resultOf, cOf, vOf, c8Of, c4Of, lastTargets}
 use Rattle.sums.specs.Sums.Sign.{plus, minus}
 use Rattle.sums.proofs.Codes.{carryIn}
 use Rattle.sums.proofs.Cycles.{oddCodeFlags}
 use Rattle.sums.proofs.Run.{after, run-is, place-left, samples-left}
 use Rattle.sums.proofs.Rest.{answer-is, attempts-are, microcycles-are, lc-is, rr-is, kept-is, latches-are, room-is, requests-other, requests-there}
-use Rattle.sums.proofs.Chain.{added, cutMade, made-is, chainFile, file-is, flags-are, chain-length, chain-bytes, chain-other, Separate, separate, chain-target, lastCycle, chain-last, zero-is}
+use Rattle.sums.proofs.Chain.{added, cutMade, made-is, chainFile, file-is, flags-are, chain-length}
+use Rattle.sums.proofs.Chain.{chain-bytes, chain-other, Separate, separate, chain-target, lastCycle, chain-last, zero-is}
 use Rattle.sums.proofs.Numbers.{Last, last-is, result-law, c-law, last-v-law, c4-law, lastByte, sign-law}
 use Rattle.sums.proofs.Given.{direct-left, direct-right, all-fit, words-length, same-length, some-steps, registers-length, registers-bytes}
 
