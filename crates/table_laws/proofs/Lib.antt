@@ -3,6 +3,9 @@ pub mod Instructions
 pub mod Rows
 pub mod Theorem
 pub mod Fates
+pub mod Arithmetic
+pub mod Performed
+pub mod Lines
 pub mod Set
 pub mod Registers
 pub mod Condition

@@ -1,502 +1,321 @@
--- What a completed word sets, and to what: one law for each kind of cycle, over the plans, to the codes that 01 lists.
--- Assumes nothing.
-use Prim.Native.Nat.{ℕ, _+_, _*_, _/_, _%_, _<_}
-use mathlib.Core.Path.{_≡_, refl, ap, sym, _∙_}
-use mathlib.Core.Bool.{Bool, true, false, not, _&&_, and-comm, false≢true}
-use mathlib.Core.List.{List, [], _∷_}
+-- What a completed word sets: every line of the operations, CCF and LCF, the word forms of F0-F7, and what sets nothing. Assumes nothing.
+use Prim.Native.Nat.{ℕ, _/_, _%_, _<_, _≤_}
+use mathlib.Core.Path.{_≡_, refl, ap, ap₂, sym, _∙_}
+use mathlib.Core.Bool.{Bool, true, false, not, _&&_, _||_, false≢true}
+use mathlib.Core.List.{List}
+use native.Mathlib.Nat.{mod-eq-of-lt}
 use native.Mathlib.Omega.{arith}
-use lib.Dec.{T, eqb, leb}
-use lib.ListN.{length}
-use borrow.Author.Tests.{eq-eqb}
-use Rattle.alu.specs.Cycle.{addOf, subtractOf, keptOf, onesOf, leftOf, rightOf, cycleOf, highFirstOf}
-use Rattle.alu.specs.Marks.{afterOf, afterByteOf, afterWordOf}
+use lib.Dec.{T, eqb, ltb, eqb→eq}
+use lib.ListN.{length, getD}
+use borrow.Author.Tests.{eqb-true, eqb-false, ne-eqb, eq-eqb}
+use Rattle.alu.specs.Cycle.{addOf, cycleOf}
+use Rattle.alu.specs.Marks.{afterOf, afterWordOf}
 use Rattle.alu.specs.declared.Cycle.{Cycle}
 use Rattle.alu.specs.declared.Flags.{Flags}
 use Rattle.alu.specs.declared.Kind.{Kind}
 use Rattle.attempt.specs.Attempt.{executedOf, outputsOf, attemptOf}
-use Rattle.attempt.specs.Effect.{jumpedOf, literalEffect, registerEffect, effectOf}
+use Rattle.attempt.specs.Effect.{jumpedOf, registerEffect, effectOf}
+use Rattle.attempt.specs.declared.Outcome.{Outcome}
 use Rattle.attempt_laws.proofs.Fate.{attempt-fate}
-use Rattle.attempt_laws.specs.Fate.{completed, odd, aIn, takenWord, fateOf, EndsAs}
-use Rattle.choose.proofs.Choice.{pick-all, pick-both}
+use Rattle.attempt_laws.specs.Fate.{Fate, refused, reset, compute-low, completed, wordFate, takenWord, fateOf, EndsAs}
+use Rattle.attempt_laws.specs.Fate.{within, noCode, oddPair, bIn, aIn}
+use Rattle.choose.proofs.Ranged.{in-arm, in-rest}
 use Rattle.choose.proofs.Table.{below}
 use Rattle.choose.proofs.Tests.{holds}
 use Rattle.choose.specs.Below.{allBelow}
 use Rattle.choose.specs.Ranged.{pick, ranged}
 use Rattle.code.proofs.Words.{apart-is}
-use Rattle.code.specs.CodeRows.{classOf, listed}
-use Rattle.code.specs.Word.{topOf, operandsIn, fieldsIn}
+use Rattle.code.specs.CodeRows.{classOf, classes}
+use Rattle.code.specs.Word.{topOf, operandsIn, fieldsIn, same}
 use Rattle.code.specs.declared.Class.{Class}
-use Rattle.cycles.specs.Cycles.{stepOf, oneCycleOf, oneThenOther, twoCyclesOf}
-use Rattle.cycles.specs.declared.Designators.{Designators}
+use Rattle.cycles.specs.Cycles.{operandOf, stepOf, twoCyclesOf}
+use Rattle.cycles.specs.declared.Operand.{Operand}
 use Rattle.cycles.specs.declared.Plan.{Plan}
-use Rattle.execute.specs.Execute.{designators, literalOf, steppedByOf, codes70To77Of, operationOf, conditionedOf, inputOf, accessOf, registersOf}
-use Rattle.plan.specs.Plan.{planOf, conditionMet, literalPlanOf}
+use Rattle.execute.specs.Execute.{designators, copiedOf, loadedOf, codes70To77Of, gainOf, accessOf, registersOf}
+use Rattle.plan.specs.Plan.{planWith, conditionMet}
 use Rattle.rows.specs.declared.Outputs.{Outputs}
 use Rattle.rows.specs.declared.Row.{Row}
 use Rattle.state.proofs.Laws.{written-length, written-same, written-other}
-use Rattle.state.specs.File.{Leaves, leaves, gSlot, slotOf, highOf, registerOf, writtenOf}
+use Rattle.state.specs.File.{Leaves, leaves, slotOf, registerOf, writtenOf}
+use Rattle.state.specs.FlagByte.{nibbleOf, flagByteOf, flagsOf}
+use Rattle.state.specs.Range.{InRange, SampleInRange}
 use Rattle.state.specs.declared.Core.{Core}
 use Rattle.state.specs.declared.Sample.{Sample}
-use Rattle.table_laws.specs.Table.{comparesOrTests}
-use Rattle.table_laws.specs.Set.{conditionFails, oddCode, keepsC, shiftsRight, onesComplements, clearsV, takesC8, takesBorrow, storesWord, storesByte, Marked, bit7, Shown}
-use Rattle.table_laws.proofs.Cycles.{carries}
-use Rattle.table_laws.proofs.Instructions.{end, _also_, ranged-both}
-use Rattle.attempt.specs.declared.Outcome.{Outcome}
+use Rattle.table_laws.specs.Operations.{Result, sumOf, operations}
+use Rattle.table_laws.specs.Set.{conditionFails, ConditionHolds, Copied, Loaded, rbAfter, Gained, Gains, setsNothing, Sets, listsWith}
+use Rattle.table_laws.proofs.Arithmetic.{Same, byte-same}
+use Rattle.table_laws.proofs.Lines.{lines, access-is, within-is}
+use Rattle.table_laws.proofs.Performed.{register-below}
+
+-- ---- CCF, LCF
+
+copied : (xs : List ℕ) (g a : ℕ) (f : Flags) → length xs ≡ 26 → let m = copiedOf xs g f a in Copied g a (m .file) f (m .back)
+unfolding copiedOf flagByteOf nibbleOf
+copied xs g a f size = record { stored = written-same xs g a _ size ∙ omega arith; flags = refl }
+
+loaded : (xs : List ℕ) (ra b : ℕ) (f : Flags) → ra < 256 → Loaded ra b xs xs f (loadedOf f ra b)
+unfolding loadedOf flagsOf
+loaded xs ra b f h =
+    let top : ra / 128 % 2 ≡ ra / 128 = mod-eq-of-lt (omega arith) in
+    record { unwritten = refl; n = rw top; z = refl; v = refl; c = refl; nb = refl; zb = refl; c4 = refl; c8 = refl }
+
+-- ---- the word forms of F0-F7
+
+-- Rb after Ra was written
+written-rb : (xs : List ℕ) (g a b v : ℕ) → length xs ≡ 26 → registerOf (writtenOf xs g a v) g b ≡ rbAfter g a b xs v
+unfolding registerOf
+written-rb xs g a b v size = go (eqb (slotOf g b) (slotOf g a)) refl
+  where
+    go : (t : Bool) → eqb (slotOf g b) (slotOf g a) ≡ t → getD (writtenOf xs g a v) (slotOf g b) 0 ≡ pick t v (getD xs (slotOf g b) 0)
+    go true e = rw (eqb-true (slotOf g b) (slotOf g a) e) (written-same xs g a v size)
+    go false e = written-other xs g a v (slotOf g b) (eqb-false (slotOf g b) (slotOf g a) e)
+
+abbrev gaining : ℕ → Plan
+gaining by = planWith Kind.Add Operand.A (Operand.Number by) false true
+
+module _ (xs : List ℕ) (g a b by : ℕ) (f : Flags) (size : length xs ≡ 26) (small : by < 256) where
+  abbrev first : Cycle
+  first = addOf (registerOf xs g a) by false
+
+  abbrev second : Cycle
+  second = addOf (rbAfter g a b xs (first .result)) 0 (first .c8)
+
+  gain-flags : (p q : Result) → Same p first → Same q second
+      → Gained p q g a b (writtenOf (writtenOf xs g a (first .result)) g b (second .result)) f
+      (afterOf f second (eqb (first .result) 0 && eqb (second .result) 0) false)
+  unfolding afterOf registerOf
+  gain-flags p q h i =
+      let ys = writtenOf xs g a (first .result) in
+      record {
+        rb = written-same ys g b _ (written-length xs g a _ ∙ size) ∙ i .number;
+        ra = λ e.
+            (written-other ys g b _ (slotOf g a) (λ j. eqb-false (slotOf g b) (slotOf g a) e (sym j)) ∙ written-same xs g a _ size ∙ h .number);
+        nb = i .negative;
+        zb = ap₂ (λ m n. eqb m 0 && eqb n 0) (h .number) (i .number);
+        c4 = i .c4;
+        c8 = i .c8;
+        n = refl;
+        z = refl;
+        v = refl;
+        c = refl;
+      }
+
+  gain-is : twoCyclesOf xs g f (gaining by) (designators a a) (designators b b) false
+      ≡ leaves (writtenOf (writtenOf xs g a (first .result)) g b (second .result)) (afterOf f second (eqb (first .result) 0 && eqb (second .result) 0) false)
+  unfolding twoCyclesOf afterWordOf stepOf operandOf cycleOf
+  gain-is =
+      let low : by % 256 ≡ by = mod-eq-of-lt small in
+      let high : by / 256 ≡ 0 = omega arith in
+      rw (low, high, written-rb xs g a b (first .result) size)
+
+  gained : let p = sumOf 256 (registerOf xs g a) by false in
+      Gained p (sumOf 256 (rbAfter g a b xs (p .number)) 0 (p .c8)) g a b (writtenOf (writtenOf xs g a (first .result)) g b (second .result)) f
+      (afterOf f second (eqb (first .result) 0 && eqb (second .result) 0) false)
+  unfolding addOf sumOf cycleOf
+  gained =
+      gain-flags _ _ (byte-same Kind.Add (registerOf xs g a) by false f small)
+      (byte-same Kind.Add (rbAfter g a b xs (first .result)) 0 (first .c8) f (omega arith))
+
+-- ---- an executed word
 
 no : {A : Type 0} → false ≡ true → A
 no e = absurd (false≢true e)
 
-is-false : (t : Bool) → not t ≡ true → t ≡ false
-is-false true e = no e
-is-false false e = refl
+either : {A : Type 0} (s t : Bool) → (s ≡ true → A) → (t ≡ true → A) → s || t ≡ true → A
+either true t f g e = f refl
+either false t f g e = g e
 
--- ---- what a kind of cycle sets
+module _ (xs : List ℕ) (k : Core) (s : Sample) (o : Outputs) (word : ℕ) (range : InRange xs k) where
+  abbrev code : ℕ
+  code = topOf word
 
--- the rules that it has: V cleared, C equal to C8, C the borrow, OCB's
-record Rules : Type 0 where
-  clears : Bool
-  sums : Bool
-  borrows : Bool
-  ones : Bool
+  abbrev executed : Leaves Outcome
+  executed = executedOf xs k (fieldsIn (classOf code) word) s o
 
-abbrev sum : Rules
-sum = record { clears = false; sums = true; borrows = false; ones = false }
+  abbrev Kept : Leaves Outcome → Type 0
+  Kept e = (e .file ≡ xs) × (e .back .core .flags ≡ k .flags)
 
-abbrev difference : Rules
-difference = record { clears = false; sums = false; borrows = true; ones = false }
+  -- a word of two designators leaves what its code's part of the registers leaves
+  module _ (P : List ℕ → Flags → Type 0) (m : Leaves Flags) (is : registersOf xs k (s .dal) code (bIn word) (aIn word) ≡ m) where
+    at-register : P (m .file) (m .back) → let e = executedOf xs k (fieldsIn Class.Register word) s o in P (e .file) (e .back .core .flags)
+    unfolding executedOf effectOf fieldsIn operandsIn registerEffect
+    at-register h = rw is h
 
-abbrev logical : Rules
-logical = record { clears = true; sums = false; borrows = false; ones = false }
+    -- 70-77
+    at-70 : 0x70 ≤ code → code < 0x78 → P (m .file) (m .back) → P (executed .file) (executed .back .core .flags)
+    unfolding classOf
+    at-70 lo hi h = rw (in-arm code classes Class.Unlisted 3 0x70 tt lo hi) (at-register h)
 
-abbrev complement : Rules
-complement = record { clears = true; sums = false; borrows = false; ones = true }
+    -- EC-FF
+    at-ec : 0xEC ≤ code → P (m .file) (m .back) → P (executed .file) (executed .back .core .flags)
+    unfolding classOf
+    at-ec lo h = rw (in-arm code classes Class.Unlisted 11 0xEC tt lo (omega arith)) (at-register h)
 
-abbrev shift : Rules
-shift = record { clears = true; sums = true; borrows = false; ones = false }
+  seventies-are : 0x70 ≤ code → code < 0x78
+      → registersOf xs k (s .dal) code (bIn word) (aIn word) ≡ codes70To77Of xs (k .latches .g) (k .flags) code (bIn word) (aIn word)
+  unfolding registersOf
+  seventies-are lo hi = in-arm code _ _ 0 0x70 tt lo (omega arith)
 
-abbrev rulesOf : Kind → Rules
-rulesOf Kind.Add = sum
-rulesOf Kind.Subtract = difference
-rulesOf Kind.And = logical
-rulesOf Kind.AndNot = logical
-rulesOf Kind.Or = logical
-rulesOf Kind.Exclusive = logical
-rulesOf Kind.Move = logical
-rulesOf Kind.Ones = complement
-rulesOf Kind.Left = shift
-rulesOf Kind.Right = shift
+  ccf-sets : code ≡ 0x72 → Copied (k .latches .g) (aIn word) (executed .file) (k .flags) (executed .back .core .flags)
+  unfolding codes70To77Of
+  ccf-sets e =
+      let g = k .latches .g in
+      at-70 (λ ys f. Copied g (aIn word) ys (k .flags) f) (copiedOf xs g (k .flags) (aIn word))
+      (seventies-are (omega arith) (omega arith) ∙ in-arm code _ _ 1 0x72 tt (omega arith) (omega arith))
+      (omega arith) (omega arith)
+      (copied xs g (aIn word) (k .flags) (range .size))
 
-record Gives (k : Kind) (f : Flags) (y : Cycle) : Type 0 where
-  v : rulesOf k .clears ≡ true → y .v ≡ false
-  kept : carries k ≡ true → y .c ≡ f .c
-  carry : rulesOf k .sums ≡ true → y .c ≡ y .c8
-  borrow : rulesOf k .borrows ≡ true → y .c ≡ not (y .c8)
-  ones : rulesOf k .ones ≡ true → (y .c ≡ true) × (y .c4 ≡ false) × (y .c8 ≡ false)
-  right : highFirstOf k ≡ true → y .c4 ≡ false
+  lcf-sets : code ≡ 0x73 → Loaded (registerOf xs (k .latches .g) (aIn word)) (bIn word) xs (executed .file) (k .flags) (executed .back .core .flags)
+  unfolding codes70To77Of
+  lcf-sets e =
+      let ra = registerOf xs (k .latches .g) (aIn word) in
+      at-70 (λ ys f. Loaded ra (bIn word) xs ys (k .flags) f) (leaves xs (loadedOf (k .flags) ra (bIn word)))
+      (seventies-are (omega arith) (omega arith) ∙ in-arm code _ _ 2 0x73 tt (omega arith) (omega arith))
+      (omega arith) (omega arith)
+      (loaded xs ra (bIn word) (k .flags) (register-below (k .latches .g) xs (range .bytes) (aIn word)))
 
-cycle-gives : (k : Kind) (p q : ℕ) (c : Bool) (f : Flags) → Gives k f (cycleOf k p q c f)
-unfolding cycleOf addOf subtractOf keptOf onesOf leftOf rightOf
-cycle-gives Kind.Add p q c f = record { v = no; kept = no; carry = λ e. refl; borrow = no; ones = no; right = no }
-cycle-gives Kind.Subtract p q c f = record { v = no; kept = no; carry = no; borrow = λ e. refl; ones = no; right = no }
-cycle-gives Kind.And p q c f = record { v = λ e. refl; kept = λ e. refl; carry = no; borrow = no; ones = no; right = no }
-cycle-gives Kind.AndNot p q c f = record { v = λ e. refl; kept = λ e. refl; carry = no; borrow = no; ones = no; right = no }
-cycle-gives Kind.Or p q c f = record { v = λ e. refl; kept = λ e. refl; carry = no; borrow = no; ones = no; right = no }
-cycle-gives Kind.Exclusive p q c f = record { v = λ e. refl; kept = λ e. refl; carry = no; borrow = no; ones = no; right = no }
-cycle-gives Kind.Move p q c f = record { v = λ e. refl; kept = λ e. refl; carry = no; borrow = no; ones = no; right = no }
-cycle-gives Kind.Ones p q c f = record { v = λ e. refl; kept = no; carry = no; borrow = no; ones = λ e. (refl, refl, refl); right = no }
-cycle-gives Kind.Left p q c f = record { v = λ e. refl; kept = no; carry = λ e. refl; borrow = no; ones = no; right = no }
-cycle-gives Kind.Right p q c f = record { v = λ e. refl; kept = no; carry = λ e. refl; borrow = no; ones = no; right = λ e. refl }
-
--- ---- what the cycles of a plan leave in the flags
-
-record Sets (k : Kind) (conditions : Bool) (f g : Flags) : Type 0 where
-  n : conditions ≡ true → g .n ≡ g .nb
-  z : conditions ≡ true → g .z ≡ g .zb
-  v : conditions ≡ true → rulesOf k .clears ≡ true → g .v ≡ false
-  kept : carries k ≡ true → g .c ≡ f .c
-  carry : conditions ≡ true → rulesOf k .sums ≡ true → g .c ≡ g .c8
-  borrow : conditions ≡ true → rulesOf k .borrows ≡ true → g .c ≡ not (g .c8)
-  ones : conditions ≡ true → rulesOf k .ones ≡ true → g .c ≡ true
-  ones-c4 : rulesOf k .ones ≡ true → g .c4 ≡ false
-  ones-c8 : rulesOf k .ones ≡ true → g .c8 ≡ false
-  right : highFirstOf k ≡ true → g .c4 ≡ false
-
-after-sets : (k : Kind) (conditions : Bool) (f : Flags) (y : Cycle) (zero : Bool) → Gives k f y → Sets k conditions f (afterOf f y zero conditions)
-unfolding afterOf
-after-sets k true f y zero h =
-    record {
-      n = λ o. refl;
-      z = λ o. refl;
-      v = λ o e. h .v e;
-      kept = h .kept;
-      carry = λ o e. h .carry e;
-      borrow = λ o e. h .borrow e;
-      ones = λ o e. h .ones e .0;
-      ones-c4 = λ e. h .ones e .1;
-      ones-c8 = λ e. h .ones e .2;
-      right = h .right;
-    }
-after-sets k false f y zero h =
-    record {
-      n = no;
-      z = no;
-      v = no;
-      kept = λ e. refl;
-      carry = no;
-      borrow = no;
-      ones = no;
-      ones-c4 = λ e. h .ones e .1;
-      ones-c8 = λ e. h .ones e .2;
-      right = h .right;
-    }
-
-after-nb : (f : Flags) (y : Cycle) (zero conditions : Bool) → afterOf f y zero conditions .nb ≡ bit7 (y .result)
-unfolding afterOf
-after-nb f y zero true = refl
-after-nb f y zero false = refl
-
-after-zb : (f : Flags) (y : Cycle) (zero conditions : Bool) → afterOf f y zero conditions .zb ≡ zero
-unfolding afterOf
-after-zb f y zero true = refl
-after-zb f y zero false = refl
-
--- ---- and in the registers
-
--- the places of a pair are two, whatever G
-abbrev placeOf : ℕ → ℕ → ℕ
-placeOf x y = pick (leb 2 y) (10 + y) (gSlot (x * 2 + y))
-
-two-places : (g a : ℕ) → slotOf g a ≡ slotOf g (highOf a) → ⊥
-unfolding slotOf highOf
-two-places g a e =
-    let p = placeOf (g % 8) (a % 16) in
-    let q = placeOf (g % 8) ((a % 16 + 1) % 16 % 16) in
-    let test : ℕ → ℕ → Bool = λ x y. not (eqb (placeOf x y) (placeOf x ((y + 1) % 16 % 16))) in
-    let t : T (not (eqb p q)) = below 16 (test (g % 8)) (below 8 (λ x. allBelow 16 (test x)) tt (g % 8) (omega arith)) (a % 16) (omega arith) in
-    rw (eq-eqb p q e) at t
-
--- Ra after a byte
-abbrev ByteShown : ℕ → ℕ → Leaves Flags → Type 0
-ByteShown g a m = (m .back .nb ≡ bit7 (registerOf (m .file) g a)) × (m .back .zb ≡ eqb (registerOf (m .file) g a) 0)
-
--- Ra and Ra+1 after a word; the last cycle is the low byte's where the high byte goes first
-abbrev WordShown : Bool → ℕ → ℕ → Leaves Flags → Type 0
-WordShown high g a m =
-    (m .back .nb ≡ bit7 (registerOf (m .file) g (pick high a (highOf a))))
-    × (m .back .zb ≡ (eqb (registerOf (m .file) g a) 0 && eqb (registerOf (m .file) g (highOf a)) 0))
-
-module _ (g : ℕ) (f : Flags) (plan : Plan) where
-  abbrev stepAt : List ℕ → Designators → Bool → Bool → Cycle
-  stepAt xs at carry high = stepOf xs g f plan at carry high .back
-
-  step-gives : (xs : List ℕ) (at : Designators) (carry high : Bool) → Gives (plan .kind) f (stepAt xs at carry high)
-  unfolding stepOf
-  step-gives xs at carry high = cycle-gives (plan .kind) _ _ carry f
-
-  one-sets : (xs : List ℕ) (at : Designators) (conditions : Bool) → Sets (plan .kind) conditions f (oneCycleOf xs g f plan at conditions .back)
-  unfolding oneCycleOf afterByteOf
-  one-sets xs at conditions = after-sets (plan .kind) conditions f _ _ (step-gives xs at (plan .carry) false)
-
-  joined-sets : (xs : List ℕ) (one other : Designators) (high conditions : Bool) → Sets (plan .kind) conditions f (oneThenOther xs g f plan one other high conditions .back)
-  unfolding afterWordOf
-  joined-sets xs one other high conditions = after-sets (plan .kind) conditions f _ _ (step-gives _ other _ _)
-
-  two-sets : (xs : List ℕ) (low high : Designators) (conditions : Bool) → Sets (plan .kind) conditions f (twoCyclesOf xs g f plan low high conditions .back)
-  unfolding twoCyclesOf
-  two-sets xs low high conditions =
-      pick-all (λ (m : Leaves Flags). Sets (plan .kind) conditions f (m .back)) (highFirstOf (plan .kind)) _ _
-      (joined-sets xs high low true conditions)
-      (joined-sets xs low high false conditions)
-
-  module _ (stores : plan .stores ≡ true) where
-    step-file : (xs : List ℕ) (at : Designators) (carry high : Bool)
-        → stepOf xs g f plan at carry high .file ≡ writtenOf xs g (at .a) (stepAt xs at carry high .result)
-    unfolding stepOf
-    step-file xs at carry high = rw stores
-
-    step-size : (xs : List ℕ) (at : Designators) (carry high : Bool) → length xs ≡ 26 → length (stepOf xs g f plan at carry high .file) ≡ 26
-    step-size xs at carry high size = rw (step-file xs at carry high) (written-length xs g (at .a) _ ∙ size)
-
-    -- the register named holds what the cycle gave
-    step-holds : (xs : List ℕ) (at : Designators) (carry high : Bool) → length xs ≡ 26
-        → registerOf (stepOf xs g f plan at carry high .file) g (at .a) ≡ stepAt xs at carry high .result
-    step-holds xs at carry high size = rw (step-file xs at carry high) (written-same xs g (at .a) _ size)
-
-    -- and every other what it held
-    step-leaves : (xs : List ℕ) (at : Designators) (carry high : Bool) (d : ℕ) → (slotOf g d ≡ slotOf g (at .a) → ⊥)
-        → registerOf (stepOf xs g f plan at carry high .file) g d ≡ registerOf xs g d
-    unfolding registerOf
-    step-leaves xs at carry high d n = rw (step-file xs at carry high) (written-other xs g (at .a) _ (slotOf g d) n)
-
-    one-shown : (xs : List ℕ) (at : Designators) (conditions : Bool) → length xs ≡ 26 → ByteShown g (at .a) (oneCycleOf xs g f plan at conditions)
-    unfolding oneCycleOf afterByteOf
-    one-shown xs at conditions size = rw (step-holds xs at (plan .carry) false size) (after-nb f _ _ conditions, after-zb f _ _ conditions)
-
-    -- after two cycles, the second on another register
-    joined-shown : (xs : List ℕ) (one other : Designators) (high conditions : Bool) → length xs ≡ 26 → (slotOf g (one .a) ≡ slotOf g (other .a) → ⊥)
-        → let m = oneThenOther xs g f plan one other high conditions in
-        (m .back .nb ≡ bit7 (registerOf (m .file) g (other .a)))
-        × (m .back .zb ≡ (eqb (registerOf (m .file) g (one .a)) 0 && eqb (registerOf (m .file) g (other .a)) 0))
-    unfolding afterWordOf
-    joined-shown xs one other high conditions size n =
-        let first = stepOf xs g f plan one (plan .carry) high in
-        let carry = first .back .c8 in
-        let held = step-leaves (first .file) other carry (not high) (one .a) n ∙ step-holds xs one (plan .carry) high size in
-        let last = step-holds (first .file) other carry (not high) (step-size xs one (plan .carry) high size) in
-        rw (held, last) (after-nb f _ _ conditions, after-zb f _ _ conditions)
-
-    two-shown : (xs : List ℕ) (a p q : ℕ) (conditions : Bool) → length xs ≡ 26
-        → WordShown (highFirstOf (plan .kind)) g a (twoCyclesOf xs g f plan (designators a p) (designators (highOf a) q) conditions)
-    unfolding twoCyclesOf
-    two-shown xs a p q conditions size = go (highFirstOf (plan .kind))
-      where
-        go : (t : Bool) → WordShown t g a (pick t (oneThenOther xs g f plan (designators (highOf a) q) (designators a p) true conditions) (oneThenOther xs g f plan (designators a p) (designators (highOf a) q) false conditions))
-        go true =
-            let m = oneThenOther xs g f plan (designators (highOf a) q) (designators a p) true conditions in
-            let (nb, zb) = joined-shown xs (designators (highOf a) q) (designators a p) true conditions size (λ e. two-places g a (sym e)) in
-            (nb, zb ∙ and-comm (eqb (registerOf (m .file) g (highOf a)) 0) (eqb (registerOf (m .file) g a) 0))
-        go false = joined-shown xs (designators a p) (designators (highOf a) q) false conditions size (two-places g a)
-
--- ---- what each instruction says of itself, in the shape of its execution
-
--- the kind of its cycles, whether N Z V C are set, and whether Ra, or the pair, holds the result
-record Says : Type 0 where
-  kind : Kind
-  conditions : Bool
-  byte : Bool
-  word : Bool
-
-abbrev says : Kind → Bool → Bool → Bool → Says
-says k c b w = record { kind = k; conditions = c; byte = b; word = w }
-
-abbrev nothing : Says
-nothing = says Kind.Add false false false
-
--- of a code that is not executed
-abbrev anything : Says
-anything = says Kind.Add true true true
-
-abbrev oneSays : Plan → Bool → Says
-oneSays plan odd = says (plan .kind) odd (plan .stores) false
-
-abbrev twoSays : Plan → Bool → Says
-twoSays plan odd = says (plan .kind) odd false (plan .stores)
-
--- CL; AL, NL, TL, LL
-unfoldable literalSays : ℕ → ℕ → Says
-literalSays code v = pick (eqb (code / 16) 3) nothing (oneSays (literalPlanOf code v) false)
-
--- CIB, CDB
-unfoldable codes70To77Say : ℕ → Says
-codes70To77Say code =
-    ranged code ((0x72, nothing) ∷ (0x73, nothing) ∷ (0x74, nothing) ∷ (0x76, nothing) ∷ (0x77, says Kind.Add false true false) ∷ [])
-    (says Kind.Add false true false)
-
-abbrev byBit : ℕ → Says → Says → Says
-byBit code one two = pick (eqb (code / 2 % 2) 0) one two
-
-unfoldable registersSay : ℕ → Flags → Says
-registersSay code f =
-    ranged code
-    ((0x80, codes70To77Say code) ∷
-    (0xE0, byBit code (oneSays (planOf code f) (odd code)) (twoSays (planOf code f) (odd code))) ∷
-    (0xE8, byBit code (says Kind.Move (odd code) true false) (says Kind.Move (odd code) false true)) ∷
-    (0xF0, nothing) ∷
-    (0xF8, byBit code (says Kind.Add false true false) nothing) ∷
-    [])
-    nothing
-
-module _ (xs : List ℕ) (g a : ℕ) (f : Flags) where
-  record Obeys (s : Says) (m : Leaves Flags) : Type 0 where
-    sets : Sets (s .kind) (s .conditions) f (m .back)
-    byte : length xs ≡ 26 → s .byte ≡ true → ByteShown g a m
-    word : length xs ≡ 26 → s .word ≡ true → WordShown (highFirstOf (s .kind)) g a m
-
-  -- a code of no list
-  idle : (m : Leaves Flags) → Obeys nothing m
-  idle m =
-      record {
-        sets = record { n = no; z = no; v = no; kept = no; carry = no; borrow = no; ones = no; ones-c4 = no; ones-c8 = no; right = no };
-        byte = λ l. no;
-        word = λ l. no;
-      }
-
-  one-obeys : (plan : Plan) (p : ℕ) (odd : Bool) → Obeys (oneSays plan odd) (oneCycleOf xs g f plan (designators a p) odd)
-  one-obeys plan p odd =
-      record { sets = one-sets g f plan xs (designators a p) odd; byte = λ l e. one-shown g f plan e xs (designators a p) odd l; word = λ l. no }
-
-  two-obey : (plan : Plan) (p q : ℕ) (odd : Bool) → Obeys (twoSays plan odd) (twoCyclesOf xs g f plan (designators a p) (designators (highOf a) q) odd)
-  two-obey plan p q odd =
-      record {
-        sets = two-sets g f plan xs (designators a p) (designators (highOf a) q) odd;
-        byte = λ l. no;
-        word = λ l e. two-shown g f plan e xs a p q odd l;
-      }
-
-  literal-obeys : (code v : ℕ) → Obeys (literalSays code v) (literalOf xs g f code v a)
-  unfolding literalSays literalOf
-  literal-obeys code v = pick-both Obeys (eqb (code / 16) 3) _ _ _ _ (idle _) (one-obeys (literalPlanOf code v) a false)
-
-  stepped-by : (by : ℕ) → Obeys (says Kind.Add false true false) (steppedByOf xs g f a by)
-  unfolding steppedByOf
-  stepped-by by = one-obeys _ a false
-
-  codes-70-to-77-obey : (code b : ℕ) → Obeys (codes70To77Say code) (codes70To77Of xs g f code b a)
-  unfolding codes70To77Say codes70To77Of
-  codes-70-to-77-obey code b =
-      ranged-both Obeys code _ _ (idle _ also idle _ also idle _ also idle _ also stepped-by 0 also end) (stepped-by 255)
-
-  work-obeys : (ics : Bool) (code b : ℕ) → conditionMet code (f .c) ics ≡ true
-      → Obeys (byBit code (oneSays (planOf code f) (odd code)) (twoSays (planOf code f) (odd code))) (conditionedOf xs g f ics code b a)
-  unfolding conditionedOf operationOf
-  work-obeys ics code b goes =
-      rw goes (pick-both Obeys (eqb (code / 2 % 2) 0) _ _ _ _ (one-obeys (planOf code f) b (odd code)) (two-obey (planOf code f) b (highOf b) (odd code)))
-
-  input-obeys : (code dal m b : ℕ)
-      → Obeys (byBit code (says Kind.Move (odd code) true false) (says Kind.Move (odd code) false true)) (inputOf xs g f code dal m b a)
-  unfolding inputOf
-  input-obeys code dal m b =
-      pick-both Obeys (eqb (code / 2 % 2) 0) _ _ _ _ (one-obeys _ a (odd code)) (two-obey _ a (highOf a) (odd code))
-
-  access-obeys : (code b : ℕ) → Obeys (byBit code (says Kind.Add false true false) nothing) (accessOf xs g f code b a)
+  gain-sets : (by : ℕ) → by < 256 → 0xF0 ≤ code → code < 0xF8 → code / 2 % 2 ≡ 1 → gainOf code ≡ by → Gains by xs k word executed
   unfolding accessOf
-  access-obeys code b = pick-both Obeys (eqb (code / 2 % 2) 0) _ _ _ _ (one-obeys _ a false) (idle _)
+  gain-sets by small lo hi odd e =
+      let g = k .latches .g in
+      let f = k .flags in
+      let a = aIn word in
+      let b = bIn word in
+      let two : eqb (code / 2 % 2) 0 ≡ false = ne-eqb (code / 2 % 2) 0 (λ z. omega arith) in
+      let p = sumOf 256 (registerOf xs g a) by false in
+      at-ec (λ ys h. Gained p (sumOf 256 (rbAfter g a b xs (p .number)) 0 (p .c8)) g a b ys f h)
+      (twoCyclesOf xs g f (gaining by) (designators a a) (designators b b) false)
+      (access-is xs k (s .dal) code b a lo hi ∙ rw (two, e))
+      (omega arith)
+      (rw (gain-is xs g a b by f (range .size) small) (gained xs g a b by f (range .size) small))
 
-registers-obey : (xs : List ℕ) (core : Core) (dal code b a : ℕ) → conditionMet code (core .flags .c) (core .latches .ics) ≡ true
-    → Obeys xs (core .latches .g) a (core .flags) (registersSay code (core .flags)) (registersOf xs core dal code b a)
-unfolding registersSay registersOf
-registers-obey xs core dal code b a goes =
-    let g = core .latches .g in
-    let f = core .flags in
-    ranged-both (Obeys xs g a f) code _ _
-    (codes-70-to-77-obey xs g a f code b also
-    work-obeys xs g a f (core .latches .ics) code b goes also
-    input-obeys xs g a f code dal (core .bus .m) b also
-    idle xs g a f _ also
-    access-obeys xs g a f code b also
-    end)
-    (idle xs g a f _)
+  -- ---- what sets nothing
 
--- ---- 01's lists and what the words say of themselves: tests that antt computes over the codes
+  jump-keeps : (c : Class) → same c Class.Jump || same c Class.Conditional ≡ true → Kept (executedOf xs k (fieldsIn c word) s o)
+  unfolding executedOf effectOf fieldsIn operandsIn jumpedOf
+  jump-keeps Class.Unlisted e = no e
+  jump-keeps Class.Jump e = (refl, refl)
+  jump-keeps Class.Conditional e = (refl, refl)
+  jump-keeps Class.Literal e = no e
+  jump-keeps Class.Register e = no e
 
-abbrev wordSays : Class → ℕ → Flags → ℕ → Says
-wordSays Class.Unlisted top f v = anything
-wordSays Class.Jump top f v = nothing
-wordSays Class.Conditional top f v = nothing
-wordSays Class.Literal top f v = literalSays (top / 0x10 * 0x10) v
-wordSays Class.Register top f v = registersSay top f
+  jumps-keep : code < 0x20 → Kept executed
+  unfolding classOf ranged
+  jumps-keep h =
+      let test : ℕ → Bool = λ x. same (classOf x) Class.Jump || same (classOf x) Class.Conditional in
+      jump-keeps (classOf code) (holds (test code) (below 0x20 test tt code h))
 
--- the codes of one list have a rule
-implied : (p q : ℕ → Bool) → T (allBelow 0x100 (λ x. pick (p x) (q x) true)) → (code : ℕ) → code < 0x100 → p code ≡ true → q code ≡ true
-implied p q t code h e = holds (q code) (rw e at (below 0x100 (λ x. pick (p x) (q x) true) t code h))
+  abbrev KeptBy : List ℕ → Flags → Type 0
+  KeptBy ys f = (ys ≡ xs) × (f ≡ k .flags)
 
-module _ (f : Flags) (v : ℕ) where
-  abbrev ofCode : ℕ → Says
-  ofCode x = wordSays (classOf x) x f v
+  ri-keeps : 0x70 ≤ code → code < 0x72 → Kept executed
+  unfolding codes70To77Of
+  ri-keeps lo hi =
+      at-70 KeptBy (leaves xs (k .flags)) (seventies-are lo (omega arith) ∙ in-arm code _ _ 0 0x70 tt lo hi) lo (omega arith) (refl, refl)
 
-  record Ruled (code : ℕ) : Type 0 where
-    conditions : oddCode code ≡ true → ofCode code .conditions ≡ true
-    clears : clearsV code ≡ true → rulesOf (ofCode code .kind) .clears ≡ true
-    kept : keepsC code ≡ true → carries (ofCode code .kind) ≡ true
-    sums : takesC8 code ≡ true → rulesOf (ofCode code .kind) .sums ≡ true
-    borrows : takesBorrow code ≡ true → rulesOf (ofCode code .kind) .borrows ≡ true
-    ones : onesComplements code ≡ true → rulesOf (ofCode code .kind) .ones ≡ true
-    high-first : shiftsRight code ≡ true → highFirstOf (ofCode code .kind) ≡ true
-    low-first : shiftsRight code ≡ false → highFirstOf (ofCode code .kind) ≡ false
-    byte : storesByte code ≡ true → ofCode code .byte ≡ true
-    word : storesWord code ≡ true → ofCode code .word ≡ true
+  rtsr-keeps : 0x74 ≤ code → code < 0x76 → Kept executed
+  unfolding codes70To77Of
+  rtsr-keeps lo hi =
+      at-70 KeptBy (leaves xs (k .flags)) (seventies-are (omega arith) (omega arith) ∙ in-arm code _ _ 3 0x74 tt lo hi) (omega arith) (omega arith)
+      (refl, refl)
 
-  ruled : (code : ℕ) → code < 0x100 → Ruled code
-  unfolding classOf ranged literalSays literalPlanOf codes70To77Say registersSay planOf oddCode keepsC clearsV takesC8 takesBorrow storesByte storesWord comparesOrTests
-  ruled code h =
+  mi-keeps : 0xEC ≤ code → code < 0xF0 → Kept executed
+  unfolding registersOf
+  mi-keeps lo hi = at-ec KeptBy (leaves xs (k .flags)) (in-arm code _ _ 3 0xEC tt lo hi) lo (refl, refl)
+
+  reads-keep : 0xF8 ≤ code → Kept executed
+  unfolding registersOf
+  reads-keep lo = at-ec KeptBy (leaves xs (k .flags)) (in-rest code _ _ 0xF8 tt lo) (omega arith) (refl, refl)
+
+  nothing-sets : setsNothing code ≡ true → Kept executed
+  unfolding setsNothing
+  nothing-sets =
+      either _ _
+      (either _ _
+      (either _ _
+      (either _ _
+      (λ e. let (l, h) = within-is 0x00 0x1F code e in jumps-keep (omega arith))
+      (λ e. let (l, h) = within-is 0x70 0x71 code e in ri-keeps l (omega arith)))
+      (λ e. let (l, h) = within-is 0x74 0x75 code e in rtsr-keeps l (omega arith)))
+      (λ e. let (l, h) = within-is 0xEC 0xEF code e in mi-keeps l (omega arith)))
+      (λ e. reads-keep (within-is 0xF8 0xFF code e .0))
+
+  gain-one-sets : within 0xF2 0xF3 code ≡ true → Gains 1 xs k word executed
+  gain-one-sets e =
+      let (l, h) = within-is 0xF2 0xF3 code e in
+      let one : eqb (code / 4 % 2) 0 ≡ true = eq-eqb (code / 4 % 2) 0 (omega arith) in
+      gain-sets 1 (omega arith) (omega arith) (omega arith) (omega arith) (rw one)
+
+  gain-two-sets : within 0xF6 0xF7 code ≡ true → Gains 2 xs k word executed
+  gain-two-sets e =
+      let (l, h) = within-is 0xF6 0xF7 code e in
+      let two : eqb (code / 4 % 2) 0 ≡ false = ne-eqb (code / 4 % 2) 0 (λ z. omega arith) in
+      gain-sets 2 (omega arith) (omega arith) (omega arith) (omega arith) (rw two)
+
+  sets : SampleInRange s → noCode code ≡ false → oddPair code (bIn word) (aIn word) ≡ false
+      → conditionMet code (k .flags .c) (k .latches .ics) ≡ true → Sets xs k s word executed
+  sets sample listed even met =
       record {
-        conditions = implied oddCode (λ x. ofCode x .conditions) tt code h;
-        clears = implied clearsV (λ x. rulesOf (ofCode x .kind) .clears) tt code h;
-        kept = implied keepsC (λ x. carries (ofCode x .kind)) tt code h;
-        sums = implied takesC8 (λ x. rulesOf (ofCode x .kind) .sums) tt code h;
-        borrows = implied takesBorrow (λ x. rulesOf (ofCode x .kind) .borrows) tt code h;
-        ones = implied onesComplements (λ x. rulesOf (ofCode x .kind) .ones) tt code h;
-        high-first = implied shiftsRight (λ x. highFirstOf (ofCode x .kind)) tt code h;
-        low-first = λ e. is-false _ (implied (λ x. not (shiftsRight x)) (λ x. not (highFirstOf (ofCode x .kind))) tt code h (ap not e));
-        byte = implied storesByte (λ x. ofCode x .byte) tt code h;
-        word = implied storesWord (λ x. ofCode x .word) tt code h;
+        operation = lines xs k s o word range listed even met sample;
+        ccf = ccf-sets;
+        lcf = lcf-sets;
+        gain-one = gain-one-sets;
+        gain-two = gain-two-sets;
+        nothing = nothing-sets;
       }
-
--- "A failed condition (C, or ICS for CAWI, being 0)", by 01's list
-goes : (code : ℕ) → code < 0x100 → (c ics : Bool) → conditionFails code c ics ≡ false → conditionMet code c ics ≡ true
-unfolding conditionFails conditionMet ranged
-goes code h true true e = implied (λ x. not (conditionFails x true true)) (λ x. conditionMet x true true) tt code h (ap not e)
-goes code h true false e = implied (λ x. not (conditionFails x true false)) (λ x. conditionMet x true false) tt code h (ap not e)
-goes code h false true e = implied (λ x. not (conditionFails x false true)) (λ x. conditionMet x false true) tt code h (ap not e)
-goes code h false false e = implied (λ x. not (conditionFails x false false)) (λ x. conditionMet x false false) tt code h (ap not e)
 
 -- ---- every completed attempt
 
--- bits 11-4
-abbrev litOf : ℕ → ℕ
-litOf word = word / 0x10 % 0x100
+-- "A failed condition (C, or ICS for CAWI, being 0)", by 01's list
+implied : (p q : ℕ → Bool) → T (allBelow 0x100 (λ x. pick (p x) (q x) true)) → (code : ℕ) → code < 0x100 → p code ≡ true → q code ≡ true
+implied p q t code h e = holds (q code) (rw e at (below 0x100 (λ x. pick (p x) (q x) true) t code h))
 
-module _ (xs : List ℕ) (k : Core) (s : Sample) (o : Outputs) (word : ℕ) where
-  abbrev Told : Says → Leaves Outcome → Type 0
-  Told y e = Obeys xs (k .latches .g) (aIn word) (k .flags) y (leaves (e .file) (e .back .core .flags))
+condition-met : (code : ℕ) → code < 0x100 → (c ics : Bool) → conditionFails code c ics ≡ false → conditionMet code c ics ≡ true
+unfolding conditionFails conditionMet ranged
+condition-met code h true true e = implied (λ x. not (conditionFails x true true)) (λ x. conditionMet x true true) tt code h (ap not e)
+condition-met code h true false e = implied (λ x. not (conditionFails x true false)) (λ x. conditionMet x true false) tt code h (ap not e)
+condition-met code h false true e = implied (λ x. not (conditionFails x false true)) (λ x. conditionMet x false true) tt code h (ap not e)
+condition-met code h false false e = implied (λ x. not (conditionFails x false false)) (λ x. conditionMet x false false) tt code h (ap not e)
 
-  executed-told : (c : Class) → listed c ≡ true → conditionMet (topOf word) (k .flags .c) (k .latches .ics) ≡ true
-      → Told (wordSays c (topOf word) (k .flags) (litOf word)) (executedOf xs k (fieldsIn c word) s o)
-  unfolding executedOf effectOf fieldsIn operandsIn jumpedOf literalEffect registerEffect
-  executed-told Class.Unlisted l e = no l
-  executed-told Class.Jump l e = idle xs (k .latches .g) (aIn word) (k .flags) _
-  executed-told Class.Conditional l e = idle xs (k .latches .g) (aIn word) (k .flags) _
-  executed-told Class.Literal l e = literal-obeys xs (k .latches .g) (aIn word) (k .flags) _ (litOf word)
-  executed-told Class.Register l e = registers-obey xs k (s .dal) (topOf word) _ (aIn word) e
+-- a word that completes is neither unlisted nor AC, and its pairs are even
+word-completes : (word : ℕ) (s : Sample) → wordFate word s ≡ completed
+    → (noCode (topOf word) ≡ false) × (oddPair (topOf word) (bIn word) (aIn word) ≡ false)
+unfolding wordFate
+word-completes word s e = go (ltb word 0x40_0000) (noCode (topOf word)) (oddPair (topOf word) (bIn word) (aIn word)) _ e
+  where
+    go : (t n d : Bool) (f : Fate) → pick t (pick n (refused 6) (pick d (refused 7) f)) (refused 2) ≡ completed → (n ≡ false) × (d ≡ false)
+    go true true d f e = let z : _≡_ {A = ℕ} 0 1 = cc in absurd (omega arith)
+    go true false true f e = let z : _≡_ {A = ℕ} 0 1 = cc in absurd (omega arith)
+    go true false false f e = (refl, refl)
+    go false n d f e = let z : _≡_ {A = ℕ} 0 1 = cc in absurd (omega arith)
 
-  ends-told : (e : Leaves Outcome) → EndsAs word xs k s o e completed → conditionMet (topOf word) (k .flags .c) (k .latches .ics) ≡ true
-      → Told (ofCode (k .flags) (litOf word) (topOf word)) e
-  ends-told e (w, a, q) h =
-      let (b, l, p) = apart-is word w a in
-      rw (q, ← p) (executed-told (classOf (topOf word)) l h)
+taken-completes : (ws : List ℕ) (k : Core) (s : Sample) → fateOf ws k s ≡ completed → wordFate (takenWord ws k) s ≡ completed
+unfolding fateOf
+taken-completes ws k s e = go (s .reset) (s .compute) (ltb (k .address .lc) (length ws / 4)) (wordFate (takenWord ws k) s) e
+  where
+    go : (r c l : Bool) (f : Fate) → pick r reset (pick c (pick l f (refused 5)) compute-low) ≡ completed → f ≡ completed
+    go true c l f e = let z : _≡_ {A = ℕ} 0 1 = cc in absurd (omega arith)
+    go false true true f e = e
+    go false true false f e = let z : _≡_ {A = ℕ} 0 1 = cc in absurd (omega arith)
+    go false false l f e = let z : _≡_ {A = ℕ} 0 1 = cc in absurd (omega arith)
 
--- the condition of the word taken at LC, if it has one, has not failed
-abbrev pub Goes : List ℕ → Core → Type 0
-Goes ws k = conditionFails (topOf (takenWord ws k)) (k .flags .c) (k .latches .ics) ≡ false
+ends-sets : (word : ℕ) (xs : List ℕ) (k : Core) (s : Sample) (o : Outputs) (e : Leaves Outcome) → EndsAs word xs k s o e completed
+    → (let code = topOf word in Sets xs k s word (executedOf xs k (fieldsIn (classOf code) word) s o)) → Sets xs k s word e
+ends-sets word xs k s o e (w, a, q) h =
+    let (b, l, p) = apart-is word w a in
+    rw (q, ← p) h
 
-module _ (ws : List ℕ) (rs : List Row) (xs : List ℕ) (k : Core) (s : Sample) (completes : fateOf ws k s ≡ completed) (holding : Goes ws k) where
-  attempt-told : Told xs k s (outputsOf ws rs k s) (takenWord ws k) (ofCode (k .flags) (litOf (takenWord ws k)) (topOf (takenWord ws k))) (attemptOf ws rs xs k s)
-  attempt-told =
-      ends-told xs k s (outputsOf ws rs k s) (takenWord ws k) (attemptOf ws rs xs k s)
-      (rw completes at (attempt-fate ws rs xs k s))
-      (goes (topOf (takenWord ws k)) (omega arith) (k .flags .c) (k .latches .ics) holding)
+-- the registers and the flags that a completed attempt leaves, its condition not failed, are those that 01 says of its code
+pub attempt-sets : (ws : List ℕ) (rs : List Row) (xs : List ℕ) (k : Core) (s : Sample) → InRange xs k → SampleInRange s
+    → fateOf ws k s ≡ completed → ConditionHolds ws k → Sets xs k s (takenWord ws k) (attemptOf ws rs xs k s)
+attempt-sets ws rs xs k s range sample completes holding =
+    let word = takenWord ws k in
+    let o = outputsOf ws rs k s in
+    let (listed, even) = word-completes word s (taken-completes ws k s completes) in
+    let met = condition-met (topOf word) (omega arith) (k .flags .c) (k .latches .ics) holding in
+    ends-sets word xs k s o (attemptOf ws rs xs k s) (rw completes at (attempt-fate ws rs xs k s)) (sets xs k s o word range sample listed even met)
 
-  attempt-ruled : Ruled (k .flags) (litOf (takenWord ws k)) (topOf (takenWord ws k))
-  attempt-ruled = ruled (k .flags) (litOf (takenWord ws k)) (topOf (takenWord ws k)) (omega arith)
-
-  -- N Z V C of a word that completes, its condition not failed, and C4 and C8 where its list clears them
-  pub attempt-marked : Marked (topOf (takenWord ws k)) (k .flags) (attemptOf ws rs xs k s .back .core .flags)
-  attempt-marked =
-      let t = attempt-told .sets in
-      let r = attempt-ruled in
-      record {
-        n = λ o. t .n (r .conditions o);
-        z = λ o. t .z (r .conditions o);
-        v = λ o e. t .v (r .conditions o) (r .clears e);
-        c-kept = λ e. t .kept (r .kept e);
-        c-carry = λ o e. t .carry (r .conditions o) (r .sums e);
-        c-borrow = λ o e. t .borrow (r .conditions o) (r .borrows e);
-        ones-c = λ o e. t .ones (r .conditions o) (r .ones e);
-        ones-c4 = λ e. t .ones-c4 (r .ones e);
-        ones-c8 = λ e. t .ones-c8 (r .ones e);
-        right-c4 = λ e. t .right (r .high-first e);
-      }
-
-  -- NB and ZB of such a word that stores, by the registers that it leaves
-  pub attempt-shown : length xs ≡ 26
-      → Shown (topOf (takenWord ws k)) (k .latches .g) (aIn (takenWord ws k)) (attemptOf ws rs xs k s .file) (attemptOf ws rs xs k s .back .core .flags)
-  attempt-shown size =
-      let t = attempt-told in
-      let r = attempt-ruled in
-      record {
-        byte-nb = λ e. t .byte size (r .byte e) .0;
-        byte-zb = λ e. t .byte size (r .byte e) .1;
-        word-nb = λ e n. rw (r .low-first n) at (t .word size (r .word e) .0);
-        right-nb = λ e n. rw (r .high-first n) at (t .word size (r .word e) .0);
-        word-zb = λ e. t .word size (r .word e) .1;
-      }
+-- and the lists leave out no code that is not refused, and have none twice
+pub every-code : (code : ℕ) → code < 0x100 → noCode code ≡ false → listsWith code ≡ 1
+unfolding noCode setsNothing
+every-code code h l = eqb→eq (listsWith code) 1 (rw l at (below 0x100 (λ x. pick (noCode x) true (eqb (listsWith x) 1)) tt code h))

@@ -1,13 +1,20 @@
--- What a completed word sets, its condition not failed: "Status (NB ZB C4 C8) is always set as 5.3.2 marks it; condition flags (N Z V C) only by LCF
--- and odd codes 81-DF and E1-E7". The lists of codes are 01's own: they use none of the engine's tables.
-use Prim.Native.Nat.{ℕ}
+-- What a completed word sets, its condition not failed: the registers and the flags that it leaves, for every code. 01's "Codes, cycles and flags";
+-- the codes are its own lists, and nothing here uses the engine's tables, plans or cycles.
+use Prim.Native.Nat.{ℕ, _+_, _*_, _/_, _%_}
 use mathlib.Core.Path.{_≡_}
 use mathlib.Core.Bool.{Bool, true, false, not, _&&_, _||_}
-use mathlib.Core.List.{List}
-use lib.Dec.{eqb, leb}
+use mathlib.Core.List.{List, [], _∷_}
+use lib.Dec.{eqb}
+use lib.ListN.{getD}
 use Rattle.alu.specs.declared.Flags.{Flags}
-use Rattle.attempt_laws.specs.Fate.{within, odd, twoCycle, inputWord}
-use Rattle.state.specs.File.{highOf, registerOf}
+use Rattle.attempt.specs.declared.Outcome.{Outcome}
+use Rattle.attempt_laws.specs.Fate.{within, odd, twoCycle, inputWord, bIn, aIn, takenWord}
+use Rattle.choose.specs.Ranged.{bit, pick}
+use Rattle.code.specs.Word.{topOf}
+use Rattle.state.specs.File.{Leaves, slotOf, registerOf}
+use Rattle.state.specs.declared.Core.{Core}
+use Rattle.state.specs.declared.Sample.{Sample}
+use Rattle.table_laws.specs.Operations.{Result, sumOf, Line, Each, operations, linesWith}
 use Rattle.table_laws.specs.Table.{comparesOrTests}
 
 -- ---- 01's lists
@@ -18,79 +25,142 @@ conditionFails code c ics =
     ((within 0x84 0x87 code || within 0xA4 0xA7 code) && not c) ||
     (within 0xAE 0xAF code && not ics)
 
+-- the word taken at LC has no condition that failed
+abbrev pub ConditionHolds : List ℕ → Core → Type 0
+ConditionHolds ws k = conditionFails (topOf (takenWord ws k)) (k .flags .c) (k .latches .ics) ≡ false
+
 -- "odd codes 81-DF and E1-E7"
 unfoldable pub oddCode : ℕ → Bool
 oddCode code = odd code && (within 0x81 0xDF code || within 0xE1 0xE7 code)
 
--- "Logical V is 0, C kept"; "Input sets N Z NB ZB, V 0": MB to CMW; NB to NCW; IB to ISW
-unfoldable pub keepsC : ℕ → Bool
-keepsC code = within 0x80 0x87 code || within 0xC0 0xD3 code || within 0xE0 0xE7 code
+-- "A word operation": the two-cycle codes 82-DF, IW and ISW
+abbrev pub wordCode : ℕ → Bool
+wordCode code = twoCycle code || inputWord code
 
--- SLBC to SLW
-abbrev pub shiftsLeft : ℕ → Bool
-shiftsLeft code = within 0x88 0x8F code
-
--- SRBC to SRW
-abbrev pub shiftsRight : ℕ → Bool
-shiftsRight code = within 0xD8 0xDF code
-
--- OCB, OCW
-abbrev pub onesComplements : ℕ → Bool
-onesComplements code = within 0x9C 0x9F code
-
--- "Logical V is 0", OCB taken for logical; "Shift left: .. V cleared. Shift right: C4 and V cleared"
-unfoldable pub clearsV : ℕ → Bool
-clearsV code = keepsC code || onesComplements code || shiftsLeft code || shiftsRight code
-
--- "C equals C8": ICB1 to ICW2, AB to AWC, CAWI; "C8 and C are bit 7", "C8 and C bit 0"
-unfoldable pub takesC8 : ℕ → Bool
-takesC8 code = within 0x90 0x97 code || within 0xA0 0xAB code || within 0xAE 0xAF code || shiftsLeft code || shiftsRight code
-
--- "C8 is that carry, C the borrow .. TCB is 0-Rb, decrement Rb-1, with the same rules": TCB, TCW; SB to DW1, compares among them
-unfoldable pub takesBorrow : ℕ → Bool
-takesBorrow code = within 0x98 0x9B code || within 0xB0 0xBF code
-
--- "A word operation": the two-cycle codes 82-DF, IW and ISW; but "Compare and test write no register"
+-- such a word; but "Compare and test write no register"
 unfoldable pub storesWord : ℕ → Bool
-storesWord code = (twoCycle code || inputWord code) && not (comparesOrTests code)
+storesWord code = wordCode code && not (comparesOrTests code)
 
 -- AL, NL, LL; CIB, CDB; the codes 80-DF and E0-E7 that are neither of two cycles nor compare or test; F0, F1, F4, F5
 unfoldable pub storesByte : ℕ → Bool
 storesByte code =
     within 0x20 0x2F code || within 0x40 0x4F code || within 0x60 0x6F code || within 0x76 0x77 code ||
-    (within 0x80 0xE7 code && not (twoCycle code || inputWord code || comparesOrTests code)) ||
+    (within 0x80 0xE7 code && not (wordCode code || comparesOrTests code)) ||
     within 0xF0 0xF1 code ||
     within 0xF4 0xF5 code
 
--- ---- N Z V C, and the carries that a list clears
+-- ---- a result, in the registers and the flags
 
-pub record Marked (code : ℕ) (before after : Flags) : Type 0 where
-  -- N and Z are what NB and ZB are
-  pub n : oddCode code ≡ true → after .n ≡ after .nb
-  pub z : oddCode code ≡ true → after .z ≡ after .zb
-  pub v : oddCode code ≡ true → clearsV code ≡ true → after .v ≡ false
-  pub c-kept : keepsC code ≡ true → after .c ≡ before .c
-  pub c-carry : oddCode code ≡ true → takesC8 code ≡ true → after .c ≡ after .c8
-  pub c-borrow : oddCode code ≡ true → takesBorrow code ≡ true → after .c ≡ not (after .c8)
-  -- "OCB sets C, clears C4 and C8"
-  pub ones-c : oddCode code ≡ true → onesComplements code ≡ true → after .c ≡ true
-  pub ones-c4 : onesComplements code ≡ true → after .c4 ≡ false
-  pub ones-c8 : onesComplements code ≡ true → after .c8 ≡ false
-  -- "Shift right: C4 .. cleared"
-  pub right-c4 : shiftsRight code ≡ true → after .c4 ≡ false
+-- a register's number, or a pair's: "A pair is Ra (low) and Ra+1"
+abbrev pub numberIn : Bool → List ℕ → ℕ → ℕ → ℕ
+numberIn word xs g d = pick word (registerOf xs g d + 256 * registerOf xs g (d + 1)) (registerOf xs g d)
 
--- ---- NB and ZB, by what the registers hold after the attempt
+abbrev pub rangeOf : Bool → ℕ
+rangeOf word = pick word 0x1_0000 0x100
 
--- bit 7 of a byte: it is 128 or more
-abbrev pub bit7 : ℕ → Bool
-bit7 x = leb 128 x
+pub record Performed (r : Result) (writes word odd : Bool) (g a : ℕ) (xs ys : List ℕ) (before after : Flags) : Type 0 where
+  pub stored : writes ≡ true → numberIn word ys g a ≡ r .number
+  -- "Compare and test write no register"
+  pub unwritten : writes ≡ false → ys ≡ xs
+  -- "Status (NB ZB C4 C8) is always set"; "ZB and Z see both bytes"
+  pub nb : after .nb ≡ r .negative
+  pub zb : after .zb ≡ eqb (r .number) 0
+  pub c4 : after .c4 ≡ r .c4
+  pub c8 : after .c8 ≡ r .c8
+  -- "condition flags (N Z V C) only by .. odd codes"
+  pub n : after .n ≡ pick odd (r .negative) (before .n)
+  pub z : after .z ≡ pick odd (eqb (r .number) 0) (before .z)
+  pub v : after .v ≡ pick odd (r .v) (before .v)
+  pub c : after .c ≡ pick odd (r .c) (before .c)
 
--- Ra by G before the attempt; "A pair is Ra (low) and Ra+1"
-pub record Shown (code g a : ℕ) (file : List ℕ) (after : Flags) : Type 0 where
-  pub byte-nb : storesByte code ≡ true → after .nb ≡ bit7 (registerOf file g a)
-  pub byte-zb : storesByte code ≡ true → after .zb ≡ eqb (registerOf file g a) 0
-  -- "Right shifts go high byte first, and NB and N are bit 7 of the low byte"; of other words the high byte is the last
-  pub word-nb : storesWord code ≡ true → shiftsRight code ≡ false → after .nb ≡ bit7 (registerOf file g (highOf a))
-  pub right-nb : storesWord code ≡ true → shiftsRight code ≡ true → after .nb ≡ bit7 (registerOf file g a)
-  -- "ZB and Z see both bytes"
-  pub word-zb : storesWord code ≡ true → after .zb ≡ (eqb (registerOf file g a) 0 && eqb (registerOf file g (highOf a)) 0)
+-- "IB and ISB: b mod 4: 0 upper, 1 lower, 2 upper if M bit 0, else lower, 3 the reverse": of the data lines
+abbrev pub inputByte : ℕ → ℕ → ℕ → ℕ
+inputByte dal m b =
+    let upper = dal / 256 in
+    let lower = dal % 256 in
+    getD (upper ∷ lower ∷ pick (odd m) upper lower ∷ pick (odd m) lower upper ∷ []) (b % 4) 0
+
+-- the operand beside Ra: bits 11-4 of a literal, 20-6F; what an input, E0-E7, takes; else Rb, or its pair
+abbrev pub otherOf : List ℕ → Core → Sample → ℕ → ℕ
+otherOf xs k s word =
+    let code = topOf word in
+    pick (within 0x20 0x6F code) (word / 0x10 % 0x100)
+    (pick (within 0xE0 0xE7 code) (pick (wordCode code) (s .dal) (inputByte (s .dal) (k .bus .m) (bIn word)))
+    (numberIn (wordCode code) xs (k .latches .g) (bIn word)))
+
+-- where the word's code is one of the line's, the attempt leaves what the line gives; "by G before the attempt"
+pub record Performs (xs : List ℕ) (k : Core) (s : Sample) (word : ℕ) (e : Leaves Outcome) (line : Line) : Type 0 where
+  pub performed : let code = topOf word in
+      let g = k .latches .g in
+      let p = numberIn (wordCode code) xs g (aIn word) in
+      let r = line .gives (rangeOf (wordCode code)) p (otherOf xs k s word) (k .flags) in
+      within (line .first) (line .last) code ≡ true
+      → Performed r (line .writes) (wordCode code) (oddCode code) g (aIn word) xs (e .file) (k .flags) (e .back .core .flags)
+
+-- ---- what is no operation of one result
+
+-- "Flag byte, high to low: N Z V C NB ZB C4 C8. CCF stores it in Ra"
+pub record Copied (g a : ℕ) (ys : List ℕ) (before after : Flags) : Type 0 where
+  pub stored : registerOf ys g a
+      ≡ 128 * bit (before .n) + 64 * bit (before .z) + 32 * bit (before .v) + 16 * bit (before .c)
+      + 8 * bit (before .nb) + 4 * bit (before .zb) + 2 * bit (before .c4) + bit (before .c8)
+  pub flags : after ≡ before
+
+-- "LCF loads N Z V C from bits 7-4 of Ra where b bits 3-0 are 1"
+pub record Loaded (ra b : ℕ) (xs ys : List ℕ) (before after : Flags) : Type 0 where
+  pub unwritten : ys ≡ xs
+  pub n : after .n ≡ pick (odd (b / 8)) (odd (ra / 128)) (before .n)
+  pub z : after .z ≡ pick (odd (b / 4)) (odd (ra / 64)) (before .z)
+  pub v : after .v ≡ pick (odd (b / 2)) (odd (ra / 32)) (before .v)
+  pub c : after .c ≡ pick (odd b) (odd (ra / 16)) (before .c)
+  pub nb : after .nb ≡ before .nb
+  pub zb : after .zb ≡ before .zb
+  pub c4 : after .c4 ≡ before .c4
+  pub c8 : after .c8 ≡ before .c8
+
+-- "Ra gains 1 or 2; the word codes then add the carry to Rb. Status only." Where a and b name one register, Rb is what Ra has gained
+abbrev pub rbAfter : ℕ → ℕ → ℕ → List ℕ → ℕ → ℕ
+rbAfter g a b xs gained = pick (eqb (slotOf g b) (slotOf g a)) gained (registerOf xs g b)
+
+pub record Gained (first second : Result) (g a b : ℕ) (ys : List ℕ) (before after : Flags) : Type 0 where
+  pub rb : registerOf ys g b ≡ second .number
+  pub ra : eqb (slotOf g b) (slotOf g a) ≡ false → registerOf ys g a ≡ first .number
+  -- "ZB and Z see both bytes, other bits the second cycle"
+  pub nb : after .nb ≡ second .negative
+  pub zb : after .zb ≡ (eqb (first .number) 0 && eqb (second .number) 0)
+  pub c4 : after .c4 ≡ second .c4
+  pub c8 : after .c8 ≡ second .c8
+  pub n : after .n ≡ before .n
+  pub z : after .z ≡ before .z
+  pub v : after .v ≡ before .v
+  pub c : after .c ≡ before .c
+
+abbrev pub Gains : ℕ → List ℕ → Core → ℕ → Leaves Outcome → Type 0
+Gains by xs k word e =
+    let g = k .latches .g in
+    let first = sumOf 256 (registerOf xs g (aIn word)) by false in
+    let second = sumOf 256 (rbAfter g (aIn word) (bIn word) xs (first .number)) 0 (first .c8) in
+    Gained first second g (aIn word) (bIn word) (e .file) (k .flags) (e .back .core .flags)
+
+-- jumps, conditional jumps; RI, SI; RTSR, LGL; MI, LTR; R to NOP
+unfoldable pub setsNothing : ℕ → Bool
+setsNothing code =
+    within 0x00 0x1F code || within 0x70 0x71 code || within 0x74 0x75 code || within 0xEC 0xEF code ||
+    within 0xF8 0xFF code
+
+-- ---- every code
+
+pub record Sets (xs : List ℕ) (k : Core) (s : Sample) (word : ℕ) (e : Leaves Outcome) : Type 0 where
+  pub operation : Each (Performs xs k s word e) operations
+  pub ccf : topOf word ≡ 0x72 → Copied (k .latches .g) (aIn word) (e .file) (k .flags) (e .back .core .flags)
+  pub lcf : topOf word ≡ 0x73 → Loaded (registerOf xs (k .latches .g) (aIn word)) (bIn word) xs (e .file) (k .flags) (e .back .core .flags)
+  -- RIW1, WIW1; RIW2, WIW2
+  pub gain-one : within 0xF2 0xF3 (topOf word) ≡ true → Gains 1 xs k word e
+  pub gain-two : within 0xF6 0xF7 (topOf word) ≡ true → Gains 2 xs k word e
+  pub nothing : setsNothing (topOf word) ≡ true → (e .file ≡ xs) × (e .back .core .flags ≡ k .flags)
+
+-- how many of these lists have a code
+abbrev pub listsWith : ℕ → ℕ
+listsWith code =
+    linesWith code operations + bit (within 0x72 0x73 code) + bit (within 0xF2 0xF3 code) + bit (within 0xF6 0xF7 code) +
+    bit (setsNothing code)
