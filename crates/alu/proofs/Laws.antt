@@ -17,7 +17,7 @@ use Rattle.numbers.specs.Numbers.{Bytes}
 
 -- ---- one byte
 
-not-bit : (t : Bool) → bit (not t) + bit t ≡ 1
+pub not-bit : (t : Bool) → bit (not t) + bit t ≡ 1
 not-bit true = refl
 not-bit false = refl
 

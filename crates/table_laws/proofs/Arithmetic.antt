@@ -8,7 +8,7 @@ use native.Mathlib.Omega.{arith}
 use lib.Bits.{bitAnd, bitOr, bitXor, and-block, or-block, xor-block, and-lt, or-lt, xor-lt}
 use lib.Dec.{eqb, leb, ltb}
 use borrow.Author.Tests.{leb-true, leb-false, lt-ltb, le-ltb, eq-eqb, ne-eqb}
-use Rattle.alu.proofs.Laws.{byte-sum, result-byte, carry-law, v-law, digit-from}
+use Rattle.alu.proofs.Laws.{not-bit, byte-sum, result-byte, carry-law, v-law, digit-from}
 use Rattle.alu.specs.Cycle.{sumOutside, biased, addOf, subtractOf, keptOf, onesOf, leftOf, rightOf, cycleOf, highFirstOf}
 use Rattle.alu.specs.declared.Cycle.{Cycle}
 use Rattle.alu.specs.declared.Flags.{Flags}
@@ -16,21 +16,23 @@ use Rattle.alu.specs.declared.Kind.{Kind}
 use Rattle.attempt_laws.specs.Fate.{odd}
 use Rattle.choose.proofs.Tests.{same-below, same-from, bit-le, bit-is}
 use Rattle.choose.specs.Ranged.{bit, pick}
-use Rattle.table_laws.specs.Operations as op
-use Rattle.table_laws.specs.Operations.{Result, lessOf, signedOutside}
+use Rattle.table_laws.specs.Operations.{Result, lessOf, signedOutside, sumOf, differenceOf, logicalOf, complementOf, shiftLeftOf, shiftRightOf}
+
+pub no : {A : Type 0} → false ≡ true → A
+no e = absurd (false≢true e)
 
 -- what a kind of cycle does to whole numbers
 abbrev pub ofKind : Kind → ℕ → ℕ → ℕ → Bool → Flags → Result
-ofKind Kind.Add h p q c f = op.sumOf h p q c
-ofKind Kind.Subtract h p q c f = op.differenceOf h p q c
-ofKind Kind.And h p q c f = op.logicalOf h (bitAnd p q) f
-ofKind Kind.AndNot h p q c f = op.logicalOf h (bitAnd p (h - 1 - q)) f
-ofKind Kind.Or h p q c f = op.logicalOf h (bitOr p q) f
-ofKind Kind.Exclusive h p q c f = op.logicalOf h (bitXor p q) f
-ofKind Kind.Move h p q c f = op.logicalOf h q f
-ofKind Kind.Ones h p q c f = op.onesOf h q
-ofKind Kind.Left h p q c f = op.leftOf h q c
-ofKind Kind.Right h p q c f = op.rightOf h q c
+ofKind Kind.Add h p q c f = sumOf h p q c
+ofKind Kind.Subtract h p q c f = differenceOf h p q c
+ofKind Kind.And h p q c f = logicalOf h (bitAnd p q) f
+ofKind Kind.AndNot h p q c f = logicalOf h (bitAnd p (h - 1 - q)) f
+ofKind Kind.Or h p q c f = logicalOf h (bitOr p q) f
+ofKind Kind.Exclusive h p q c f = logicalOf h (bitXor p q) f
+ofKind Kind.Move h p q c f = logicalOf h q f
+ofKind Kind.Ones h p q c f = complementOf h q
+ofKind Kind.Left h p q c f = shiftLeftOf h q c
+ofKind Kind.Right h p q c f = shiftRightOf h q c
 
 -- ---- V and the borrow
 
@@ -59,10 +61,6 @@ not-leb m n = go (leb m n) refl
     go true e = sym (le-ltb n m (leb-true m n e))
     go false e = sym (lt-ltb n m (leb-false m n e))
 
-not-bit : (t : Bool) → bit (not t) + bit t ≡ 1
-not-bit true = refl
-not-bit false = refl
-
 -- "C the borrow": more was taken than there was
 borrow-is : (h p q : ℕ) (c : Bool) → q < h → not (leb h (p + (h - 1 - q) + bit c)) ≡ ltb p (q + bit (not c))
 borrow-is h p q c l =
@@ -84,25 +82,25 @@ pub record Shows (r : Result) (n : ℕ) (y : Cycle) : Type 0 where
 abbrev pub Same : Result → Cycle → Type 0
 Same r y = Shows r (y .result) y
 
-add-byte : (p q : ℕ) (c : Bool) → Same (op.sumOf 256 p q c) (addOf p q c)
-unfolding addOf op.sumOf
+add-byte : (p q : ℕ) (c : Bool) → Same (sumOf 256 p q c) (addOf p q c)
+unfolding addOf sumOf
 add-byte p q c = record { number = refl; negative = refl; c4 = refl; c8 = refl; v = outside-is 128 p q c; c = refl }
 
-subtract-byte : (p q : ℕ) (c : Bool) → q < 256 → Same (op.differenceOf 256 p q c) (subtractOf p q c)
-unfolding subtractOf addOf op.differenceOf op.sumOf
+subtract-byte : (p q : ℕ) (c : Bool) → q < 256 → Same (differenceOf 256 p q c) (subtractOf p q c)
+unfolding subtractOf addOf differenceOf sumOf
 subtract-byte p q c h =
     record { number = refl; negative = refl; c4 = refl; c8 = refl; v = outside-is 128 p (255 - q) c; c = borrow-is 256 p q c h }
 
-kept-byte : (x : ℕ) (f : Flags) → Same (op.logicalOf 256 x f) (keptOf x f)
-unfolding keptOf op.logicalOf
+kept-byte : (x : ℕ) (f : Flags) → Same (logicalOf 256 x f) (keptOf x f)
+unfolding keptOf logicalOf
 kept-byte x f = record { number = refl; negative = refl; c4 = refl; c8 = refl; v = refl; c = refl }
 
-ones-byte : (q : ℕ) → Same (op.onesOf 256 q) (onesOf q)
-unfolding onesOf op.onesOf
+ones-byte : (q : ℕ) → Same (complementOf 256 q) (onesOf q)
+unfolding onesOf complementOf
 ones-byte q = record { number = refl; negative = refl; c4 = refl; c8 = refl; v = refl; c = refl }
 
-left-byte : (q : ℕ) (c : Bool) → Same (op.leftOf 256 q c) (leftOf q c)
-unfolding leftOf op.leftOf
+left-byte : (q : ℕ) (c : Bool) → Same (shiftLeftOf 256 q c) (leftOf q c)
+unfolding leftOf shiftLeftOf
 left-byte q c =
     let e : q * 2 % 256 + bit c ≡ (q * 2 + bit c) % 256 = omega (arith, bit-le c) in
     record { number = e; negative = ap (leb 128) e; c4 = refl; c8 = refl; v = refl; c = refl }
@@ -114,8 +112,8 @@ bit-seven x h = go (leb 128 x) refl
     go true e = let l = leb-true 128 x e in sym (eq-eqb (x / 128 % 2) 1 (omega arith))
     go false e = let l = leb-false 128 x e in sym (ne-eqb (x / 128 % 2) 1 (λ n. omega arith))
 
-right-byte : (q : ℕ) (c : Bool) → q < 256 → Same (op.rightOf 256 q c) (rightOf q c)
-unfolding rightOf op.rightOf
+right-byte : (q : ℕ) (c : Bool) → q < 256 → Same (shiftRightOf 256 q c) (rightOf q c)
+unfolding rightOf shiftRightOf
 right-byte q c h =
     record { number = refl; negative = bit-seven (q / 2 + 128 * bit c) (omega (arith, bit-le c)); c4 = refl; c8 = refl; v = refl; c = refl }
 
@@ -186,7 +184,7 @@ module _ (p₀ p₁ q₀ q₁ : ℕ) (c : Bool) (f : Flags) (hp₀ : p₀ < 256)
       ∙ outside-is 32768 P Q c
 
   add-word : LowFirst Kind.Add p₀ p₁ q₀ q₁ c f
-  unfolding cycleOf op.sumOf addOf
+  unfolding cycleOf sumOf addOf
   add-word =
       record {
         number = sum-number;
@@ -197,8 +195,8 @@ module _ (p₀ p₁ q₀ q₁ : ℕ) (c : Bool) (f : Flags) (hp₀ : p₀ < 256)
         c = sum-c8;
       }
 
-kept-word : (low high x : ℕ) (f : Flags) → low < 256 → low + 256 * high ≡ x → Joined (op.logicalOf 65536 x f) (keptOf low f) (keptOf high f) (keptOf high f)
-unfolding keptOf op.logicalOf
+kept-word : (low high x : ℕ) (f : Flags) → low < 256 → low + 256 * high ≡ x → Joined (logicalOf 65536 x f) (keptOf low f) (keptOf high f) (keptOf high f)
+unfolding keptOf logicalOf
 kept-word low high x f h e =
     record { number = e; negative = digit-from low high 128 h ∙ ap (leb 32768) e; c4 = refl; c8 = refl; v = refl; c = refl }
 
@@ -213,7 +211,7 @@ twice q h = go (leb 128 q) refl
 -- logic goes bit by bit, so byte by byte
 bits-word : (g : ℕ → ℕ → ℕ) → ((k a b r s : ℕ) → r < 2 ^ k → s < 2 ^ k → g (a * 2 ^ k + r) (b * 2 ^ k + s) ≡ g a b * 2 ^ k + g r s)
     → (p₀ p₁ q₀ q₁ : ℕ) (f : Flags) → p₀ < 256 → q₀ < 256 → g p₀ q₀ < 256
-    → Joined (op.logicalOf 65536 (g (p₀ + 256 * p₁) (q₀ + 256 * q₁)) f) (keptOf (g p₀ q₀) f) (keptOf (g p₁ q₁) f) (keptOf (g p₁ q₁) f)
+    → Joined (logicalOf 65536 (g (p₀ + 256 * p₁) (q₀ + 256 * q₁)) f) (keptOf (g p₀ q₀) f) (keptOf (g p₁ q₁) f) (keptOf (g p₁ q₁) f)
 bits-word g block p₀ p₁ q₀ q₁ f hp hq h =
     let p : p₀ + 256 * p₁ ≡ p₁ * 256 + p₀ = omega arith in
     let q : q₀ + 256 * q₁ ≡ q₁ * 256 + q₀ = omega arith in
@@ -225,7 +223,7 @@ module _ (p₀ p₁ q₀ q₁ : ℕ) (c : Bool) (f : Flags) (hp₀ : p₀ < 256)
   ones-value = omega arith
 
   subtract-word : LowFirst Kind.Subtract p₀ p₁ q₀ q₁ c f
-  unfolding cycleOf subtractOf op.differenceOf op.sumOf
+  unfolding cycleOf subtractOf differenceOf sumOf
   subtract-word =
       let P = p₀ + 256 * p₁ in
       let Q = q₀ + 256 * q₁ in
@@ -233,7 +231,7 @@ module _ (p₀ p₁ q₀ q₁ : ℕ) (c : Bool) (f : Flags) (hp₀ : p₀ < 256)
       record { number = y .number; negative = y .negative; c4 = y .c4; c8 = y .c8; v = y .v; c = ap not (y .c8) ∙ borrow-is 65536 P Q c (omega arith) }
 
   ones-word : LowFirst Kind.Ones p₀ p₁ q₀ q₁ c f
-  unfolding cycleOf onesOf op.onesOf
+  unfolding cycleOf onesOf complementOf
   ones-word =
       record {
         number = ones-value;
@@ -245,7 +243,7 @@ module _ (p₀ p₁ q₀ q₁ : ℕ) (c : Bool) (f : Flags) (hp₀ : p₀ < 256)
       }
 
   left-word : LowFirst Kind.Left p₀ p₁ q₀ q₁ c f
-  unfolding cycleOf leftOf op.leftOf
+  unfolding cycleOf leftOf shiftLeftOf
   left-word =
       let Q = q₀ + 256 * q₁ in
       let low = q₀ * 2 % 256 + bit c in
@@ -262,8 +260,8 @@ module _ (p₀ p₁ q₀ q₁ : ℕ) (c : Bool) (f : Flags) (hp₀ : p₀ < 256)
       }
 
   -- "Right shifts go high byte first, and NB and N are bit 7 of the low byte"
-  right-word : Joined (op.rightOf 65536 (q₀ + 256 * q₁) c) (rightOf q₀ (rightOf q₁ c .c8)) (rightOf q₁ c) (rightOf q₀ (rightOf q₁ c .c8))
-  unfolding rightOf op.rightOf
+  right-word : Joined (shiftRightOf 65536 (q₀ + 256 * q₁) c) (rightOf q₀ (rightOf q₁ c .c8)) (rightOf q₁ c) (rightOf q₀ (rightOf q₁ c .c8))
+  unfolding rightOf shiftRightOf
   right-word =
       let Q = q₀ + 256 * q₁ in
       let low = q₀ / 2 + 128 * bit (odd q₁) in
@@ -274,31 +272,30 @@ module _ (p₀ p₁ q₀ q₁ : ℕ) (c : Bool) (f : Flags) (hp₀ : p₀ < 256)
       let same : odd q₀ ≡ odd Q = ap (λ n. eqb n 1) o in
       record { number = e; negative = bit-seven low (omega arith) ∙ ap (λ n. eqb n 1) d; c4 = refl; c8 = same; v = refl; c = same }
 
-  -- the same, the high byte first
-  pub word-joined-down : (k : Kind) → highFirstOf k ≡ true → HighFirst k p₀ p₁ q₀ q₁ c f
+  pub high-first-joined : (k : Kind) → highFirstOf k ≡ true → HighFirst k p₀ p₁ q₀ q₁ c f
   unfolding cycleOf
-  word-joined-down Kind.Add e = absurd (false≢true e)
-  word-joined-down Kind.Subtract e = absurd (false≢true e)
-  word-joined-down Kind.And e = absurd (false≢true e)
-  word-joined-down Kind.AndNot e = absurd (false≢true e)
-  word-joined-down Kind.Or e = absurd (false≢true e)
-  word-joined-down Kind.Exclusive e = absurd (false≢true e)
-  word-joined-down Kind.Move e = absurd (false≢true e)
-  word-joined-down Kind.Ones e = absurd (false≢true e)
-  word-joined-down Kind.Left e = absurd (false≢true e)
-  word-joined-down Kind.Right e = right-word
+  high-first-joined Kind.Add e = no e
+  high-first-joined Kind.Subtract e = no e
+  high-first-joined Kind.And e = no e
+  high-first-joined Kind.AndNot e = no e
+  high-first-joined Kind.Or e = no e
+  high-first-joined Kind.Exclusive e = no e
+  high-first-joined Kind.Move e = no e
+  high-first-joined Kind.Ones e = no e
+  high-first-joined Kind.Left e = no e
+  high-first-joined Kind.Right e = right-word
 
-  pub word-joined : (k : Kind) → highFirstOf k ≡ false → LowFirst k p₀ p₁ q₀ q₁ c f
+  pub low-first-joined : (k : Kind) → highFirstOf k ≡ false → LowFirst k p₀ p₁ q₀ q₁ c f
   unfolding cycleOf
-  word-joined Kind.Add e = add-word p₀ p₁ q₀ q₁ c f hp₀ hp₁ hq₀ hq₁
-  word-joined Kind.Subtract e = subtract-word
-  word-joined Kind.And e = bits-word bitAnd and-block p₀ p₁ q₀ q₁ f hp₀ hq₀ (and-lt 8 p₀ q₀ hp₀ hq₀)
-  word-joined Kind.AndNot e =
+  low-first-joined Kind.Add e = add-word p₀ p₁ q₀ q₁ c f hp₀ hp₁ hq₀ hq₁
+  low-first-joined Kind.Subtract e = subtract-word
+  low-first-joined Kind.And e = bits-word bitAnd and-block p₀ p₁ q₀ q₁ f hp₀ hq₀ (and-lt 8 p₀ q₀ hp₀ hq₀)
+  low-first-joined Kind.AndNot e =
       let h : 255 - q₀ < 256 = omega arith in
       rw ones-value at (bits-word bitAnd and-block p₀ p₁ (255 - q₀) (255 - q₁) f hp₀ h (and-lt 8 p₀ (255 - q₀) hp₀ h))
-  word-joined Kind.Or e = bits-word bitOr or-block p₀ p₁ q₀ q₁ f hp₀ hq₀ (or-lt 8 p₀ q₀ hp₀ hq₀)
-  word-joined Kind.Exclusive e = bits-word bitXor xor-block p₀ p₁ q₀ q₁ f hp₀ hq₀ (xor-lt 8 p₀ q₀ hp₀ hq₀)
-  word-joined Kind.Move e = kept-word q₀ q₁ _ f hq₀ refl
-  word-joined Kind.Ones e = ones-word
-  word-joined Kind.Left e = left-word
-  word-joined Kind.Right e = absurd (false≢true (sym e))
+  low-first-joined Kind.Or e = bits-word bitOr or-block p₀ p₁ q₀ q₁ f hp₀ hq₀ (or-lt 8 p₀ q₀ hp₀ hq₀)
+  low-first-joined Kind.Exclusive e = bits-word bitXor xor-block p₀ p₁ q₀ q₁ f hp₀ hq₀ (xor-lt 8 p₀ q₀ hp₀ hq₀)
+  low-first-joined Kind.Move e = kept-word q₀ q₁ _ f hq₀ refl
+  low-first-joined Kind.Ones e = ones-word
+  low-first-joined Kind.Left e = left-word
+  low-first-joined Kind.Right e = no (sym e)

@@ -1,7 +1,7 @@
 -- Each line of the operations beside the engine's own plans and parts, and so of every executed word. Assumes nothing.
 use Prim.Native.Nat.{ℕ, zero, suc, _+_, _*_, _/_, _%_, _<_, _≤_}
 use mathlib.Core.Path.{_≡_, refl, ap, sym, _∙_}
-use mathlib.Core.Bool.{Bool, true, false, not, _&&_, _||_, Bool·beq, false≢true}
+use mathlib.Core.Bool.{Bool, true, false, not, _&&_, _||_, Bool·beq}
 use mathlib.Core.List.{List, [], _∷_}
 use native.Mathlib.Omega.{arith}
 use lib.Dec.{eqb, leb, ltb}
@@ -36,7 +36,7 @@ use Rattle.state.specs.declared.Core.{Core}
 use Rattle.state.specs.declared.Sample.{Sample}
 use Rattle.table_laws.specs.Operations.{Result, Line, Each, end, _also_, written, unwritten, sumOf, logicalOf, differenceOf, operations}
 use Rattle.table_laws.specs.Set.{oddCode, wordCode, numberIn, rangeOf, Performed, inputByte, otherOf, Performs}
-use Rattle.table_laws.proofs.Arithmetic.{byte-same}
+use Rattle.table_laws.proofs.Arithmetic.{no, byte-same}
 use Rattle.table_laws.proofs.Performed.{Fits, ofPlan, performed, one-performed, two-performed}
 
 -- ---- a choice that doesn't change within a line's codes
@@ -93,9 +93,6 @@ under : (lo hi x : ℕ) → x < lo → within lo hi x ≡ false
 under lo hi x h = rw (lt-leb lo x h)
 
 -- ---- "7 tests a and b for the two-cycle codes 82-DF, and a alone for IW and ISW"
-
-no : {A : Type 0} → false ≡ true → A
-no e = absurd (false≢true e)
 
 tested : (two input a b : Bool) → (two && (a || b)) || (input && a) ≡ false → (two || input ≡ true → a ≡ false) × (two ≡ true → b ≡ false)
 tested true input false false e = ((λ h. refl), (λ h. refl))

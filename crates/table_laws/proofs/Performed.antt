@@ -1,7 +1,7 @@
 -- One cycle, and the two of a word, on the register file: they leave the plan's result in Ra, or in the pair, and in the flags. Assumes nothing.
 use Prim.Native.Nat.{ℕ, _+_, _*_, _%_, _<_}
 use mathlib.Core.Path.{_≡_, refl, ap, ap₂, sym, _∙_}
-use mathlib.Core.Bool.{Bool, true, false, not, _&&_, and-comm, false≢true}
+use mathlib.Core.Bool.{Bool, true, false, not, _&&_, and-comm}
 use mathlib.Core.List.{List}
 use native.Mathlib.Nat.{mod-eq-of-lt}
 use native.Mathlib.Omega.{arith}
@@ -27,10 +27,7 @@ use Rattle.state.proofs.Laws.{written-length, written-same, written-other}
 use Rattle.state.specs.File.{Leaves, slotOf, highOf, registerOf, writtenOf, gSlot}
 use Rattle.table_laws.specs.Operations.{Result}
 use Rattle.table_laws.specs.Set.{numberIn, Performed}
-use Rattle.table_laws.proofs.Arithmetic.{ofKind, Shows, Same, Joined, byte-same, word-joined, word-joined-down}
-
-no : {A : Type 0} → false ≡ true → A
-no e = absurd (false≢true e)
+use Rattle.table_laws.proofs.Arithmetic.{ofKind, Shows, Same, Joined, byte-same, low-first-joined, high-first-joined}
 
 -- ---- the flags
 
@@ -257,7 +254,7 @@ module _ (g : ℕ) (f : Flags) (plan : Plan) where
           let joined : Joined (ofPlan plan 65536 (numberIn true xs g a) (numberIn true xs g b) f) (first .back) (second .back) (second .back)
           = rw (second-is xs size low high false na nb, step-is xs low (plan .carry) false _ _ refl refl)
           (rw (byte-of-joined (plan .p), byte-of-joined (plan .q)) at
-          (word-joined (byteOf (plan .p) false) (byteOf (plan .p) true) (byteOf (plan .q) false) (byteOf (plan .q) true) (plan .carry) f
+          (low-first-joined (byteOf (plan .p) false) (byteOf (plan .p) true) (byteOf (plan .q) false) (byteOf (plan .q) true) (plan .carry) f
           (byte-of-below (plan .p) false fp) (byte-of-below (plan .p) true fp) (byte-of-below (plan .q) false fq) (byte-of-below (plan .q) true fq)
           (plan .kind) e)) in
           performed _ (plan .stores) true g a xs _ f (second .back) _ _ odd
@@ -277,7 +274,7 @@ module _ (g : ℕ) (f : Flags) (plan : Plan) where
           let joined : Joined (ofPlan plan 65536 (numberIn true xs g a) (numberIn true xs g b) f) (second .back) (first .back) (second .back)
           = rw (second-is xs size high low true na nb, step-is xs high (plan .carry) true _ _ refl refl)
           (rw (byte-of-joined (plan .p), byte-of-joined (plan .q)) at
-          (word-joined-down (byteOf (plan .p) false) (byteOf (plan .p) true) (byteOf (plan .q) false) (byteOf (plan .q) true) (plan .carry) f
+          (high-first-joined (byteOf (plan .p) false) (byteOf (plan .p) true) (byteOf (plan .q) false) (byteOf (plan .q) true) (plan .carry) f
           (byte-of-below (plan .p) false fp) (byte-of-below (plan .p) true fp) (byte-of-below (plan .q) false fq) (byte-of-below (plan .q) true fq)
           (plan .kind) e)) in
           performed _ (plan .stores) true g a xs _ f (second .back) _ _ odd

@@ -1,7 +1,7 @@
 -- What a completed word sets: every line of the operations, CCF and LCF, the word forms of F0-F7, and what sets nothing. Assumes nothing.
 use Prim.Native.Nat.{ℕ, _/_, _%_, _<_, _≤_}
 use mathlib.Core.Path.{_≡_, refl, ap, ap₂, sym, _∙_}
-use mathlib.Core.Bool.{Bool, true, false, not, _&&_, _||_, false≢true}
+use mathlib.Core.Bool.{Bool, true, false, not, _&&_, _||_}
 use mathlib.Core.List.{List}
 use native.Mathlib.Nat.{mod-eq-of-lt}
 use native.Mathlib.Omega.{arith}
@@ -43,7 +43,7 @@ use Rattle.state.specs.declared.Core.{Core}
 use Rattle.state.specs.declared.Sample.{Sample}
 use Rattle.table_laws.specs.Operations.{Result, sumOf, operations}
 use Rattle.table_laws.specs.Set.{conditionFails, ConditionHolds, Copied, Loaded, rbAfter, Gained, Gains, setsNothing, Sets, listsWith}
-use Rattle.table_laws.proofs.Arithmetic.{Same, byte-same}
+use Rattle.table_laws.proofs.Arithmetic.{no, Same, byte-same}
 use Rattle.table_laws.proofs.Lines.{lines, access-is, within-is}
 use Rattle.table_laws.proofs.Performed.{register-below}
 
@@ -117,9 +117,6 @@ module _ (xs : List ℕ) (g a b by : ℕ) (f : Flags) (size : length xs ≡ 26) 
       (byte-same Kind.Add (rbAfter g a b xs (first .result)) 0 (first .c8) f (omega arith))
 
 -- ---- an executed word
-
-no : {A : Type 0} → false ≡ true → A
-no e = absurd (false≢true e)
 
 either : {A : Type 0} (s t : Bool) → (s ≡ true → A) → (t ≡ true → A) → s || t ≡ true → A
 either true t f g e = f refl

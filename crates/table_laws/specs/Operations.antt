@@ -19,10 +19,10 @@ pub record Result : Type 0 where
   pub c : Bool
 
 -- ---- the operations, on numbers below h: 256 for a byte, 65536 for a word. "A word operation is the low byte, then the high byte with C8 as its
--- carry .. ZB and Z see both bytes, other bits the second cycle": so C8, V and C of a word are those of the whole numbers, and C4 is that of the
--- digit below its last
+-- carry .. ZB and Z see both bytes, other bits the second cycle": so C8, V and C of a word are those of the whole numbers, and C4 is the carry into
+-- the highest digit
 
--- "V says the signed sum is outside -128 to 127": a number of h/2 or more stands for h less
+-- "V says the signed sum is outside -128 to 127": a number of h/2 or more stands for itself less h
 abbrev pub lessOf : ℕ → ℕ → ℕ
 lessOf half x = pick (leb half x) (2 * half) 0
 
@@ -43,7 +43,7 @@ sumOf h p q c =
       c = leb h (p + q + bit c);
     }
 
--- "Subtract Ra-Rb: adds Ra, 255-Rb and 1. C8 is that carry, C the borrow. SBC adds 1-C in place of 1": more is taken than there is
+-- "Subtract Ra-Rb: adds Ra, 255-Rb and 1. C8 is that carry, C the borrow", where more is taken than there is; the 1 is the carry in here
 unfoldable pub differenceOf : ℕ → ℕ → ℕ → Bool → Result
 differenceOf h p q c =
     let y = sumOf h p (h - 1 - q) c in
@@ -54,12 +54,12 @@ unfoldable pub logicalOf : ℕ → ℕ → Flags → Result
 logicalOf h x f = record { number = x; negative = leb (h / 2) x; c4 = f .c4; c8 = f .c8; v = false; c = f .c }
 
 -- "OCB sets C, clears C4 and C8"
-unfoldable pub onesOf : ℕ → ℕ → Result
-onesOf h q = record { number = h - 1 - q; negative = leb (h / 2) (h - 1 - q); c4 = false; c8 = false; v = false; c = true }
+unfoldable pub complementOf : ℕ → ℕ → Result
+complementOf h q = record { number = h - 1 - q; negative = leb (h / 2) (h - 1 - q); c4 = false; c8 = false; v = false; c = true }
 
 -- "Shift left: C8 and C are bit 7, C4 bit 3, V cleared"
-unfoldable pub leftOf : ℕ → ℕ → Bool → Result
-leftOf h q c =
+unfoldable pub shiftLeftOf : ℕ → ℕ → Bool → Result
+shiftLeftOf h q c =
     record {
       number = (q * 2 + bit c) % h;
       negative = leb (h / 2) ((q * 2 + bit c) % h);
@@ -70,8 +70,8 @@ leftOf h q c =
     }
 
 -- "Shift right: C4 and V cleared, C8 and C bit 0"; "NB and N are bit 7 of the low byte"
-unfoldable pub rightOf : ℕ → ℕ → Bool → Result
-rightOf h q c =
+unfoldable pub shiftRightOf : ℕ → ℕ → Bool → Result
+shiftRightOf h q c =
     record {
       number = q / 2 + h / 2 * bit c;
       negative = odd ((q / 2 + h / 2 * bit c) / 128);
@@ -103,8 +103,8 @@ pub data Each (P : Line → Type 0) : List Line → Type 0 where
   end : Each P []
   _also_ : {l : Line} {ls : List Line} → P l → Each P ls → Each P (l ∷ ls)
 
--- p is Ra; q is Rb, the literal, or what is on the data lines. "ABC and shifts with carry take the C flag"; "TCB is 0-Rb, decrement Rb-1"; "CIB adds C8;
--- CDB adds 255 and C8"; "F0-F7: Ra gains 1 or 2", the word forms apart
+-- p is Ra; q is Rb, the literal, or what the data lines hold. "ABC and shifts with carry take the C flag"; "SBC adds 1-C in place of 1. TCB is 0-Rb,
+-- decrement Rb-1"; "CIB adds C8; CDB adds 255 and C8"; "F0-F7: Ra gains 1 or 2", whose word forms stand apart
 abbrev pub operations : List Line
 operations =
     written 0x20 0x2F (λ h p q f. sumOf h p q false) ∷  -- AL
@@ -115,12 +115,12 @@ operations =
     written 0x76 0x76 (λ h p q f. sumOf h p 0 (f .c8)) ∷  -- CIB
     written 0x77 0x77 (λ h p q f. sumOf h p 255 (f .c8)) ∷  -- CDB
     written 0x80 0x87 (λ h p q f. logicalOf h q f) ∷  -- MB MW CMB CMW
-    written 0x88 0x8B (λ h p q f. leftOf h q (f .c)) ∷  -- SLBC SLWC
-    written 0x8C 0x8F (λ h p q f. leftOf h q false) ∷  -- SLB SLW
+    written 0x88 0x8B (λ h p q f. shiftLeftOf h q (f .c)) ∷  -- SLBC SLWC
+    written 0x8C 0x8F (λ h p q f. shiftLeftOf h q false) ∷  -- SLB SLW
     written 0x90 0x93 (λ h p q f. sumOf h q 1 false) ∷  -- ICB1 ICW1
     written 0x94 0x97 (λ h p q f. sumOf h q 2 false) ∷  -- ICB2 ICW2
     written 0x98 0x9B (λ h p q f. differenceOf h 0 q true) ∷  -- TCB TCW
-    written 0x9C 0x9F (λ h p q f. onesOf h q) ∷  -- OCB OCW
+    written 0x9C 0x9F (λ h p q f. complementOf h q) ∷  -- OCB OCW
     written 0xA0 0xA7 (λ h p q f. sumOf h p q false) ∷  -- AB AW CAB CAW
     written 0xA8 0xAB (λ h p q f. sumOf h p q (f .c)) ∷  -- ABC AWC
     written 0xAE 0xAF (λ h p q f. sumOf h p q false) ∷  -- CAWI
@@ -133,8 +133,8 @@ operations =
     written 0xC8 0xCB (λ h p q f. logicalOf h (bitOr p q) f) ∷  -- ORB ORW
     written 0xCC 0xCF (λ h p q f. logicalOf h (bitXor p q) f) ∷  -- XB XW
     written 0xD0 0xD3 (λ h p q f. logicalOf h (bitAnd p (h - 1 - q)) f) ∷  -- NCB NCW: "NCB is Ra and not Rb"
-    written 0xD8 0xDB (λ h p q f. rightOf h q (f .c)) ∷  -- SRBC SRWC
-    written 0xDC 0xDF (λ h p q f. rightOf h q false) ∷  -- SRB SRW
+    written 0xD8 0xDB (λ h p q f. shiftRightOf h q (f .c)) ∷  -- SRBC SRWC
+    written 0xDC 0xDF (λ h p q f. shiftRightOf h q false) ∷  -- SRB SRW
     written 0xE0 0xE7 (λ h p q f. logicalOf h q f) ∷  -- IB IW ISB ISW
     written 0xF0 0xF1 (λ h p q f. sumOf h p 1 false) ∷  -- RIB1 WIB1
     written 0xF4 0xF5 (λ h p q f. sumOf h p 2 false) ∷  -- RIB2 WIB2
