@@ -92,7 +92,7 @@ above lo hi x h = go (leb lo x)
 under : (lo hi x : ℕ) → x < lo → within lo hi x ≡ false
 under lo hi x h = rw (lt-leb lo x h)
 
--- ---- "7 tests a and b for the two-cycle codes 82-DF, and a alone for IW and ISW"
+-- ---- "Refusal 7 tests a and b for the two-cycle codes 82-DF, and a alone for IW and ISW"
 
 tested : (two input a b : Bool) → (two && (a || b)) || (input && a) ≡ false → (two || input ≡ true → a ≡ false) × (two ≡ true → b ≡ false)
 tested true input false false e = ((λ h. refl), (λ h. refl))
@@ -110,11 +110,11 @@ digit-zero (suc (suc x)) l h = absurd (omega arith)
 is-even : (n : ℕ) → odd n ≡ false → n % 2 ≡ 0
 is-even n e = digit-zero (n % 2) (omega arith) (eqb-false (n % 2) 1 e)
 
--- the code is one of 80-DF
+-- below E0 the word codes are the two-cycle ones
 two-cycle : (code : ℕ) → code < 0xE0 → wordCode code ≡ true → twoCycle code ≡ true
 two-cycle code h e = holds _ (rw e at (below 0xE0 (λ x. pick (wordCode x) (twoCycle x) true) tt code h))
 
--- a line says of an attempt what its result, its writing and its operand say
+-- an equal result, written or not alike
 restated : {r r′ : Result} {w w′ word odd : Bool} {g a : ℕ} {xs ys : List ℕ} {f f′ : Flags} → r ≡ r′ → w ≡ w′
     → Performed r w word odd g a xs ys f f′ → Performed r′ w′ word odd g a xs ys f f′
 restated e i h = rw (← e, ← i) h
