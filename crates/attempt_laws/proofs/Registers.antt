@@ -11,7 +11,7 @@ use Rattle.state.proofs.Digits.{flag-byte-below}
 use Rattle.state.specs.declared.Core.{Core}
 use Rattle.cycles.specs.declared.Plan.{Plan}
 use Rattle.plan.specs.Plan.{plans, planOf, conditionMet, literalPlanOf}
-use Rattle.execute.specs.Execute.{designators, literalOf, copiedOf, steppedByOf, codes70To77Of, operationOf, conditionedOf, upperOf, selectedOf, inputOf, accessOf, registersOf}
+use Rattle.execute.specs.Execute.{designators, literalOf, copiedOf, steppedByOf, codes70To77Of, operationOf, conditionedOf, upperOf, selectedOf, inputOf, gainOf, accessOf, registersOf}
 use Rattle.choose.proofs.Choice.{end, _also_, pick-all, ranged-all, tested}
 use Rattle.attempt_laws.proofs.Files.{FileInRange, planFits, written-in-range, one-cycle-in-range, two-cycles-in-range}
 
@@ -82,7 +82,7 @@ module _ (xs : List ℕ) (g : ℕ) (f : Flags) (h : FileInRange xs) where
   access-in-range : (code b a : ℕ) → Keeps (accessOf xs g f code b a)
   unfolding accessOf
   access-in-range code b a =
-      let t = pick-all (λ (n : ℕ). T (ltb n 65536)) (eqb (code / 4 % 2) 0) 1 2 tt tt in
+      let t : T (ltb (gainOf code) 65536) = pick-all (λ (n : ℕ). T (ltb n 65536)) (eqb (code / 4 % 2) 0) _ _ tt tt in
       pick-all Keeps (eqb (code / 2 % 2) 0) _ _
       (one-cycle-in-range g f _ t xs (designators a a) false h)
       (two-cycles-in-range g f _ t xs (designators a a) (designators b b) false h)

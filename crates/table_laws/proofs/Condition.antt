@@ -4,7 +4,7 @@ use mathlib.Core.Path.{_≡_, refl, ap, sym, _∙_}
 use mathlib.Core.Bool.{Bool, true, false, not, _&&_}
 use mathlib.Core.List.{List}
 use native.Mathlib.Omega.{arith}
-use lib.Dec.{T, eqb, leb, eqb→eq, leb→le}
+use lib.Dec.{T, leb, leb→le}
 use Rattle.alu.specs.declared.Flags.{Flags}
 use Rattle.attempt.specs.Attempt.{executedOf, outputsOf, attemptOf}
 use Rattle.attempt.specs.Effect.{registerEffect, effectOf}
@@ -28,21 +28,23 @@ use Rattle.state.specs.File.{Leaves, leaves}
 use Rattle.state.specs.declared.Core.{Core}
 use Rattle.state.specs.declared.Sample.{Sample}
 use Rattle.table_laws.specs.Condition.{Conditional, cmb, cmb-odd, cmw, cmw-odd, cab, cab-odd, caw, caw-odd, cawi, cawi-odd}
-use Rattle.table_laws.specs.Condition.{Unconditional, cyclesBy, LeavesAs}
+use Rattle.table_laws.specs.Condition.{Unconditional, LeavesAs}
+use Rattle.attempt_laws.specs.After.{costIs}
+use Rattle.attempt_laws.proofs.After.{attempt-cost}
 use Rattle.table_laws.specs.Set.{conditionFails}
 use Rattle.table_laws.proofs.Fates.{attempt-cycles-are}
 
 -- ---- 01's list: a test that antt computes over the codes
 
--- of a code whose condition fails: it is a register code of 80-DF, the engine's condition isn't met, and its row has 01's cycles; else it is met
+-- of a code whose condition fails: it is a register code of 80-DF, and the engine's condition isn't met; else it is met
 abbrev failing : ℕ → Bool
-failing code = within 0x80 0xDF code && same (classOf code) Class.Register && eqb (rowOf code .cycles) (cyclesBy code)
+failing code = within 0x80 0xDF code && same (classOf code) Class.Register
 
 abbrev condition : Bool → Bool → ℕ → Bool
 condition c ics code = pick (conditionFails code c ics) (not (conditionMet code c ics) && failing code) (conditionMet code c ics)
 
 conditions : (c ics : Bool) (code : ℕ) → code < 0x100 → T (condition c ics code)
-unfolding conditionFails conditionMet cyclesBy rowOf classOf cyclesOf ranged
+unfolding conditionFails conditionMet classOf ranged
 conditions true true = below 0x100 (condition true true) tt
 conditions true false = below 0x100 (condition true false) tt
 conditions false true = below 0x100 (condition false true) tt
@@ -58,21 +60,17 @@ module _ (c ics : Bool) (code : ℕ) (h : code < 0x100) where
     from : 0x80 ≤ code
     to : code ≤ 0xDF
     class : classOf code ≡ Class.Register
-    cycles : rowOf code .cycles ≡ cyclesBy code
 
   fails : conditionFails code c ics ≡ true → Fails
   fails e =
       let t : T (not (conditionMet code c ics) && failing code) = rw e at (conditions c ics code h) in
-      let u = both-right (not (conditionMet code c ics)) (failing code) t in
-      let kind = within 0x80 0xDF code && same (classOf code) Class.Register in
-      let v = both-left kind (eqb (rowOf code .cycles) (cyclesBy code)) u in
+      let v = both-right (not (conditionMet code c ics)) (failing code) t in
       let w = both-left (within 0x80 0xDF code) (same (classOf code) Class.Register) v in
       record {
         unmet = not-met _ (both-left (not (conditionMet code c ics)) (failing code) t);
         from = leb→le 0x80 code (both-left (leb 0x80 code) (leb code 0xDF) w);
         to = leb→le code 0xDF (both-right (leb 0x80 code) (leb code 0xDF) w);
         class = same-class _ _ (holds _ (both-right (within 0x80 0xDF code) (same (classOf code) Class.Register) v));
-        cycles = eqb→eq _ _ (both-right kind (eqb (rowOf code .cycles) (cyclesBy code)) u);
       }
 
   pub condition-holds : conditionFails code c ics ≡ false → conditionMet code c ics ≡ true
@@ -153,7 +151,7 @@ module _ (rs : List Row) (xs : List ℕ) (k : Core) (s : Sample) where
 
   -- "A failed condition (C, or ICS for CAWI, being 0) changes registers and flags not at all; cycles stay"
   pub failed-condition : (ws : List ℕ) → fateOf ws k s ≡ completed → conditionFails (topOf (takenWord ws k)) (k .flags .c) (k .latches .ics) ≡ true
-      → LeavesAs (attemptOf ws rs xs k s) (leaves xs (k .flags)) (cyclesBy (topOf (takenWord ws k)))
+      → LeavesAs (attemptOf ws rs xs k s) (leaves xs (k .flags)) (costIs (topOf (takenWord ws k)))
   failed-condition ws e f =
       let word = takenWord ws k in
       let h : topOf word < 0x100 = omega arith in
@@ -163,7 +161,7 @@ module _ (rs : List Row) (xs : List ℕ) (k : Core) (s : Sample) where
       record {
         file = file ∙ ap (λ (m : Leaves Flags). m .file) none;
         flags = flags ∙ ap (λ (m : Leaves Flags). m .back) none;
-        cycles = attempt-costs ws e ∙ code .cycles;
+        cycles = attempt-cost ws rs xs k s e;
       }
 
   -- one that is met leaves what the code without it leaves, from the same state

@@ -1,11 +1,10 @@
 -- "A failed condition (C, or ICS for CAWI, being 0) changes registers and flags not at all; cycles stay": what it costs, and what a code with a
 -- condition does where that is met. Codes are by number, as 01 and the manual have them: they use none of the engine's tables.
-use Prim.Native.Nat.{ℕ, _+_}
+use Prim.Native.Nat.{ℕ}
 use mathlib.Core.Path.{_≡_}
 use Rattle.alu.specs.declared.Flags.{Flags}
 use Rattle.attempt.specs.declared.Outcome.{Outcome}
-use Rattle.attempt_laws.specs.Fate.{twoCycle, bIn, aIn}
-use Rattle.choose.specs.Ranged.{bit}
+use Rattle.attempt_laws.specs.Fate.{bIn, aIn}
 use Rattle.code.specs.Word.{topOf}
 use Rattle.state.specs.File.{Leaves}
 
@@ -32,10 +31,6 @@ pub record Unconditional (word other : ℕ) : Type 0 where
   pub code : Conditional (topOf word) (topOf other)
   pub b : bIn other ≡ bIn word
   pub a : aIn other ≡ aIn word
-
--- "cycles stay": two of "the two-cycle codes 82-DF", one of the others
-unfoldable pub cyclesBy : ℕ → ℕ
-cyclesBy code = 1 + bit (twoCycle code)
 
 -- what an attempt leaves in the registers and the flags, and what it costs
 pub record LeavesAs (e : Leaves Outcome) (m : Leaves Flags) (cost : ℕ) : Type 0 where
