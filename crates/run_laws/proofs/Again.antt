@@ -24,9 +24,9 @@ use Rattle.run_laws.proofs.Range.{run-in-range}
 
 -- ---- what is handed in
 module _ (s : List ℕ) (b : Bytes s) (h : samplesInRange s ≡ true) where
-  one-in-range : (i : ℕ) → i + 1 ≤ length s / 4 → SampleInRange (sampleAt s i)
+  pub sample-in-its-range : (i : ℕ) → i + 1 ≤ length s / 4 → SampleInRange (sampleAt s i)
   unfolding sampleAt
-  one-in-range i l =
+  sample-in-its-range i l =
       record {
         dal = pair-below s b (i * 4);
         interrupts = omega (arith, sample-in-range s h i (omega arith) .1);
@@ -35,7 +35,7 @@ module _ (s : List ℕ) (b : Bytes s) (h : samplesInRange s ≡ true) where
   pub samples-in-range : (n i : ℕ) → i + n ≤ length s / 4 → SamplesInRange (samplesFrom s i n)
   unfolding samplesFrom
   samples-in-range zero i l = tt
-  samples-in-range (suc n) i l = (one-in-range i (omega arith), samples-in-range n (suc i) (omega arith))
+  samples-in-range (suc n) i l = (sample-in-its-range i (omega arith), samples-in-range n (suc i) (omega arith))
 
 -- ---- what comes back
 module _ (deck : List ℕ) (b : Bytes deck) where

@@ -4,4 +4,5 @@ pub mod Answer
 pub mod Places
 pub mod Pieces
 pub mod Hosts
-pub mod Written
+pub mod Returned
+pub mod Attempts
