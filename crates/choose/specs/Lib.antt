@@ -1,2 +1,3 @@
 pub mod Ranged
 pub mod Below
+pub mod Bits

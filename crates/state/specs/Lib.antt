@@ -2,3 +2,4 @@ pub mod File
 pub mod FlagByte
 pub mod Range
 pub mod Registers
+pub mod Order

@@ -43,7 +43,7 @@ run-is s zero a e = drop-of-length-le s {i = a} (omega arith)
 run-is s (suc n) a e = rw (drop-cons s a 0 (omega arith), run-is s n (suc a) (omega arith))
 
 -- what is tested of a state in range
-tested : (s : List ℕ) → stateInRange s ≡ true → (length s ≡ 41) × (byteAt s 37 ≤ 15) × (coreInRange (coreOf s) ≡ true)
+pub tested : (s : List ℕ) → stateInRange s ≡ true → (length s ≡ 41) × (byteAt s 37 ≤ 15) × (coreInRange (coreOf s) ≡ true)
 unfolding stateInRange
 tested s h =
     let p = three (eqb (length s) 41) (leb (byteAt s 37) 15) (coreInRange (coreOf s)) h in
@@ -65,7 +65,7 @@ bytes-back s b h =
 
 -- ---- to the bytes and back
 -- the byte at 26 + j, after the registers
-tail-at : (xs : List ℕ) (k : Core) → length xs ≡ 26 → (j : ℕ) → byteAt (bytesOf xs k) (26 + j) ≡ byteAt (tailOf k) j
+pub tail-at : (xs : List ℕ) (k : Core) → length xs ≡ 26 → (j : ℕ) → byteAt (bytesOf xs k) (26 + j) ≡ byteAt (tailOf k) j
 tail-at xs k e j = rw (← e) (getD-append-add xs (tailOf k) j 0)
 
 -- the bytes of a core give it again, whatever the registers before them
@@ -83,7 +83,7 @@ unfolding fileOf
 file-back xs k e = rw append-assoc (take-at xs _ 26 e)
 
 -- ---- in range
-core-true : (xs : List ℕ) (k : Core) → InRange xs k → coreInRange k ≡ true
+pub core-true : (xs : List ℕ) (k : Core) → InRange xs k → coreInRange k ≡ true
 unfolding coreInRange addressInRange latchesInRange
 core-true xs k r =
     rw (le-leb (k .address .lc) 2047 (omega arith), le-leb (k .address .rr) 2047 (omega arith), le-leb (k .address .tsr) 7 (omega arith), le-leb (k .latches .g) 7 (omega arith), le-leb (k .latches .interrupts) 7 (omega arith))

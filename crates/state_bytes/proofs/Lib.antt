@@ -1,2 +1,3 @@
 mod Steps
 pub mod Laws
+pub mod Order
