@@ -2,3 +2,5 @@ pub mod Scan
 pub mod Section
 pub mod Range
 pub mod Table
+pub mod Order
+pub mod Matching
