@@ -1,2 +1,4 @@
 mod Every
 pub mod Laws
+pub mod Order
+pub mod Slip
