@@ -22,6 +22,9 @@ use Rattle.state.specs.declared.Sample.{Sample}
 use Rattle.run_laws.specs.Attempts.{sumBelow, attemptFrom, leftBy, stateAfter, attemptAt, stateOf, Ran}
 use Rattle.run_laws.proofs.Places.{run-places}
 
+abbrev cyclesOf : Leaves Outcome → ℕ
+cyclesOf e = e .back .cycles
+
 -- the first of a sum, and the others
 sum-first : (n : ℕ) (f g : ℕ → ℕ) → ((j : ℕ) → f (suc j) ≡ g j) → sumBelow (suc n) f ≡ f 0 + sumBelow n g
 sum-first zero f g e = omega arith
@@ -72,7 +75,7 @@ module _ (ws : List ℕ) (rs : List Row) where
           omega (
             arith,
             r .microcycles,
-            sum-first (r .made) (λ j. attemptAt ws rs at first j .back .cycles) _ (λ j. ap (λ (x : Leaves Outcome). x .back .cycles) (attempt-shift at first j)),
+            sum-first (r .made) (λ j. attemptAt ws rs at first j .back .cycles) _ (λ j. ap cyclesOf (attempt-shift at first j)),
           );
       places = places;
     }
@@ -123,7 +126,8 @@ module _ (ws : List ℕ) (rs : List Row) where
     places = λ j l. absurd (omega arith);
   }
   run-ran (s ∷ ss) d w z =
-      one-more s ss d w (run-ran ss d (steppedOf w (attemptOf ws rs (w .file) (w .core) s)) refl) (eqb (attemptOf ws rs (w .file) (w .core) s .back .refusal) 0) refl
+      let x = attemptOf ws rs (w .file) (w .core) s in
+      one-more s ss d w (run-ran ss d (steppedOf w x) refl) (eqb (x .back .refusal) 0) refl
 
   module _ (ss : List Sample) (d : Sample) (w : World) (z : w .answer ≡ 0) where
     -- of a run that made i attempts and was refused: attempt i is refused with its answer, and its state is the one before that
@@ -178,7 +182,7 @@ module _ (ws : List ℕ) (rs : List Row) (at at′ : ℕ → Sample) (n : ℕ) (
         omega (
           arith,
           r .microcycles,
-          sum-same (r .made) (λ j. attemptAt ws rs at first j .back .cycles) _ (λ j l. ap (λ (x : Leaves Outcome). x .back .cycles) (one j (omega (arith, few)))),
+          sum-same (r .made) (λ j. attemptAt ws rs at first j .back .cycles) _ (λ j l. ap cyclesOf (one j (omega (arith, few)))),
         );
     places = λ j l. rw (← one j (omega (arith, few))) (r .places j l);
   }

@@ -6,3 +6,4 @@ pub mod Pieces
 pub mod Hosts
 pub mod Returned
 pub mod Attempts
+pub mod Slip

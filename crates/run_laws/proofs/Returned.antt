@@ -108,7 +108,8 @@ module _ (deck requests state : List ℕ) (b : Bytes deck) (h : deckRefusalOf de
       })
 
   -- however the run ends, its microcycles are those of the attempts made, added up
-  pub host-cycles : hostOf deck requests state .report .microcycles ≡ sumBelow (hostOf deck requests state .report .attempts) (λ j. attemptIn deck j .back .cycles)
+  pub host-cycles : hostOf deck requests state .report .microcycles
+      ≡ sumBelow (hostOf deck requests state .report .attempts) (λ j. attemptIn deck j .back .cycles)
   host-cycles =
       rw (← answers deck requests state h (deckRun deck requests) refl)
       (let e : ran .made ≡ deckRun deck requests .attempts = omega (arith, ran .attempts) in

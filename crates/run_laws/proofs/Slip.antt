@@ -1,0 +1,50 @@
+-- The numbers before the first attempt, of what the host is handed back: 1-4 and 9, exactly.
+-- Assumes nothing.
+use mathlib.Core.Path.{_≡_, refl, sym, ap, _∙_}
+use mathlib.Core.Bool.{Bool, true, false}
+use mathlib.Core.List.{List}
+use mathlib.Core.Logic.{_↔_, _⊎_, ⊎-elim}
+use Prim.Native.Nat.{ℕ, _≤_}
+use native.Mathlib.Omega.{arith}
+use borrow.Author.Tests.{eqb-true, eqb-false}
+use lib.Dec.{eqb}
+use lib.ListN.{length}
+use Rattle.deck.specs.Ranges.{deckRefusalOf}
+use Rattle.deck.specs.Slip.{slip, FirstFailing, BeforeAttempts}
+use Rattle.deck.proofs.Slip.{refusal-exactly}
+use Rattle.engine.specs.Host.{Hosted, hosted, reported, hostOf}
+use Rattle.engine.proofs.Hosts.{refuses}
+use Rattle.numbers.specs.Numbers.{Bytes}
+use Rattle.run_laws.specs.Laws.{Number}
+use Rattle.run_laws.proofs.Hosts.{host-number}
+
+module _ (deck requests state : List ℕ) (b : Bytes deck) where
+  -- "Numbers 1-4 and 9 return no attempts and no microcycles and change nothing": the report has the number alone, and both buffers are as found
+  pub host-untouched : (n : ℕ) → (n ≡ 0 → ⊥) → FirstFailing (slip deck (length requests) (length state)) n
+      → hostOf deck requests state ≡ hosted (reported n 0 0) requests state
+  host-untouched n z f =
+      let e : deckRefusalOf deck (length requests) (length state) ≡ n = refusal-exactly deck b (length requests) (length state) n .1 f in
+      sym (refuses deck requests state (λ h. z (sym e ∙ h))) ∙ ap (λ (m : ℕ). hosted (reported m 0 0) requests state) e
+
+  -- an answer of 9, 1, 2, 3 or 4 comes from no attempt
+  from-slip : (n : ℕ) → BeforeAttempts n → hostOf deck requests state .report .answer ≡ n → deckRefusalOf deck (length requests) (length state) ≡ n
+  from-slip n o e = go (eqb (deckRefusalOf deck (length requests) (length state)) 0) refl
+    where
+      never : Number (hostOf deck requests state .report .answer) → ⊥
+      never k =
+          ⊎-elim (λ (a : n ≡ 9). omega (arith, k (λ z. omega arith)))
+          (λ (a : (1 ≤ n) × (n ≤ 4)). omega (arith, k (λ z. omega arith))) o
+
+      go : (t : Bool) → eqb (deckRefusalOf deck (length requests) (length state)) 0 ≡ t → deckRefusalOf deck (length requests) (length state) ≡ n
+      go true q = absurd (never (host-number deck requests state (eqb-true _ _ q) b))
+      go false q = ap (λ (h : Hosted). h .report .answer) (refuses deck requests state (eqb-false _ 0 q)) ∙ e
+
+  not-zero : (n : ℕ) → BeforeAttempts n → n ≡ 0 → ⊥
+  not-zero n o z = ⊎-elim (λ (a : n ≡ 9). omega arith) (λ (a : (1 ≤ n) × (n ≤ 4)). omega arith) o
+
+  -- "Given exactly when", "Order: 9, then 1, 2, 3, 4": the answer is n exactly when test n is the first that fails
+  pub host-before : (n : ℕ) → BeforeAttempts n → (hostOf deck requests state .report .answer ≡ n) ↔ FirstFailing (slip deck (length requests) (length state)) n
+  host-before n o = (
+    (λ e. refusal-exactly deck b (length requests) (length state) n .0 (from-slip n o e)),
+    (λ f. ap (λ (h : Hosted). h .report .answer) (host-untouched n (not-zero n o) f)),
+  )
