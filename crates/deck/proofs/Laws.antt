@@ -36,7 +36,10 @@ section-end-ge s a size = omega arith
 
 -- each section of a whole deck ends within it
 pub fits : (s : List ℕ) → wholeOf s ≡ true
-    → (sectionEnd s 0 4 ≤ length s) × (sectionEnd s (layoutOf s .rows) 16 ≤ length s) × (sectionEnd s (layoutOf s .state) 41 ≤ length s) × (sectionEnd s (layoutOf s .samples) 4 ≤ length s)
+    → (sectionEnd s 0 4 ≤ length s)
+    × (sectionEnd s (layoutOf s .rows) 16 ≤ length s)
+    × (sectionEnd s (layoutOf s .state) 41 ≤ length s)
+    × (sectionEnd s (layoutOf s .samples) 4 ≤ length s)
 unfolding layoutOf
 fits s h =
     let end = tested s h .2 in
@@ -64,12 +67,17 @@ cut s a size h =
 
 -- the deck is its counts and its sections, in their order, and nothing else
 pub whole-deck : (s : List ℕ) → wholeOf s ≡ true
-    → s ≡ take 2 s ++ (wordsPart s ++ (take 2 (drop (layoutOf s .rows) s) ++ (rowsPart s ++ (take 2 (drop (layoutOf s .state) s) ++ (statePart s ++ (take 2 (drop (layoutOf s .samples) s) ++ samplesPart s))))))
+    → let count : ℕ → List ℕ = λ a. take 2 (drop a s) in
+    s ≡ take 2 s ++ (wordsPart s
+    ++ (count (layoutOf s .rows) ++ (rowsPart s
+    ++ (count (layoutOf s .state) ++ (statePart s
+    ++ (count (layoutOf s .samples) ++ samplesPart s))))))
 unfolding layoutOf
 whole-deck s h =
     let l = layoutOf s in
     let none : drop (l .end) s ≡ [] = drop-of-length-le s {i = l .end} (omega (arith, tested s h .2)) in
-    let past = ap (λ (r : List ℕ). take 2 (drop (l .samples) s) ++ (samplesPart s ++ r)) none ∙ ap (λ (r : List ℕ). take 2 (drop (l .samples) s) ++ r) (append-nil (samplesPart s)) in
+    let count = take 2 (drop (l .samples) s) in
+    let past = ap (λ (r : List ℕ). count ++ (samplesPart s ++ r)) none ∙ ap (λ (r : List ℕ). count ++ r) (append-nil (samplesPart s)) in
     cut s 0 4 h
     ∙ ap (λ (r : List ℕ). take 2 s ++ (wordsPart s ++ r)) (cut s (l .rows) 16 h
     ∙ ap (λ (r : List ℕ). take 2 (drop (l .rows) s) ++ (rowsPart s ++ r)) (cut s (l .state) 41 h

@@ -33,7 +33,8 @@ module _ (deck : List ℕ) (requests buffer : ℕ) (h : deckRefusalOf deck reque
       table-rows (rowsPart deck) (length (rowsPart deck) / 16) (rows-in-range (rowsPart deck) (a .rows) .0) (omega arith)
 
 module _ (deck requests state : List ℕ) where
-  pub refuses : (deckRefusalOf deck (length requests) (length state) ≡ 0 → ⊥) → hosted (reported (deckRefusalOf deck (length requests) (length state)) 0 0) requests state ≡ hostOf deck requests state
+  pub refuses : (deckRefusalOf deck (length requests) (length state) ≡ 0 → ⊥)
+      → hosted (reported (deckRefusalOf deck (length requests) (length state)) 0 0) requests state ≡ hostOf deck requests state
   unfolding hostOf
   refuses h = rw (ne-eqb _ 0 h)
 

@@ -65,12 +65,15 @@ module _ (ws : List ℕ) (rs : List Row) where
 
     module _ (e : Leaves Outcome) (made : e ≡ attemptOf ws rs xs k (sampleAt samples i)) (l : i < n) where
       pub goes-on : e .back .refusal ≡ 0
-          → left ≡ runFrom ws rs (samplesFrom samples (i + 1) (n - (i + 1))) (world (e .file) (e .back .core) 0 (i + 1) (c + e .back .cycles) (put4Of b (i * 4) (e .back .request)))
+          → left
+          ≡ runFrom ws rs (samplesFrom samples (i + 1) (n - (i + 1)))
+          (world (e .file) (e .back .core) 0 (i + 1) (c + e .back .cycles) (put4Of b (i * 4) (e .back .request)))
       unfolding steppedOf
       goes-on h = rw (samples-step samples i n l) (run-cons (sampleAt samples i) _ (world xs k 0 i c b) e made h)
 
       pub stops : (e .back .refusal ≡ 0 → ⊥) → left ≡ world (e .file) k (e .back .refusal) i c b
       unfolding stoppedOf
       stops h =
-          let kept : e .file ≡ xs = ap (λ (x : Leaves Outcome). x .file) made ∙ refusal-keeps ws rs xs k (sampleAt samples i) (λ z. h (ap (λ (x : Leaves Outcome). x .back .refusal) made ∙ z)) .0 in
+          let refuses : attemptOf ws rs xs k (sampleAt samples i) .back .refusal ≡ 0 → ⊥ = λ z. h (ap (λ (x : Leaves Outcome). x .back .refusal) made ∙ z) in
+          let kept : e .file ≡ xs = ap (λ (x : Leaves Outcome). x .file) made ∙ refusal-keeps ws rs xs k (sampleAt samples i) refuses .0 in
           rw (samples-step samples i n l, kept) (run-stop (sampleAt samples i) _ (world xs k 0 i c b) e made h)

@@ -73,10 +73,12 @@ pub core-back : (xs : List ℕ) (k : Core) → length xs ≡ 26 → coreOf (byte
 unfolding coreOf addressOf busOf latchesOf tailOf
 core-back xs k e =
     let at = tail-at xs k e in
-    let m = bits (k .latches .marked) (k .bus .iack) (k .bus .sync) (k .latches .ics) (nibbleOf (k .latches .marked) (k .bus .iack) (k .bus .sync) (k .latches .ics)) refl in
+    let l = k .latches in
+    let m = bits (l .marked) (k .bus .iack) (k .bus .sync) (l .ics) (nibbleOf (l .marked) (k .bus .iack) (k .bus .sync) (l .ics)) refl in
     rw (at 0, at 1, at 2, at 3, at 4, at 5, at 6, at 7, at 8, at 9, at 10, at 11, at 12, at 13, at 14)
-    (rw (flags-back (k .flags), mod-add-div (k .address .lc) 256, mod-add-div (k .address .rr) 256, mod-add-div (k .latches .tr) 256, mod-add-div (k .bus .m) 256, mod-add-div (k .latches .modification) 256)
-    (rw (is-bit (k .latches .marked) _ (m .0), is-bit (k .bus .iack) _ (m .1), is-bit (k .bus .sync) _ (m .2), is-bit (k .latches .ics) _ (m .3))))
+    (rw (flags-back (k .flags), mod-add-div (k .address .lc) 256, mod-add-div (k .address .rr) 256)
+    (rw (mod-add-div (k .latches .tr) 256, mod-add-div (k .bus .m) 256, mod-add-div (k .latches .modification) 256)
+    (rw (is-bit (k .latches .marked) _ (m .0), is-bit (k .bus .iack) _ (m .1), is-bit (k .bus .sync) _ (m .2), is-bit (k .latches .ics) _ (m .3)))))
 
 pub file-back : (xs : List ℕ) (k : Core) → length xs ≡ 26 → fileOf (bytesOf xs k) ≡ xs
 unfolding fileOf
@@ -86,8 +88,8 @@ file-back xs k e = rw append-assoc (take-at xs _ 26 e)
 pub core-true : (xs : List ℕ) (k : Core) → InRange xs k → coreInRange k ≡ true
 unfolding coreInRange addressInRange latchesInRange
 core-true xs k r =
-    rw (le-leb (k .address .lc) 2047 (omega arith), le-leb (k .address .rr) 2047 (omega arith), le-leb (k .address .tsr) 7 (omega arith), le-leb (k .latches .g) 7 (omega arith), le-leb (k .latches .interrupts) 7 (omega arith))
-    (go (k .latches .marked) refl)
+    rw (le-leb (k .address .lc) 2047 (omega arith), le-leb (k .address .rr) 2047 (omega arith), le-leb (k .address .tsr) 7 (omega arith))
+    (rw (le-leb (k .latches .g) 7 (omega arith), le-leb (k .latches .interrupts) 7 (omega arith)) (go (k .latches .marked) refl))
   where
     go : (t : Bool) → k .latches .marked ≡ t → (t || eqb (k .latches .modification) 0) ≡ true
     go true e = refl
@@ -104,7 +106,8 @@ bytes-in-range xs k r =
     rw (eq-eqb _ _ (bytes-length xs k (r .size)), le-leb _ _ (marks-le xs k (r .size)), core-back xs k (r .size), core-true xs k r)
 
 -- what is tested of a core in range, and that its wide parts have 16 bits
-in-range : (xs : List ℕ) (k : Core) → length xs ≡ 26 → Bytes xs → coreInRange k ≡ true → k .bus .m < 65536 → k .latches .tr < 65536 → k .latches .modification < 65536 → InRange xs k
+in-range : (xs : List ℕ) (k : Core) → length xs ≡ 26 → Bytes xs → coreInRange k ≡ true
+    → k .bus .m < 65536 → k .latches .tr < 65536 → k .latches .modification < 65536 → InRange xs k
 unfolding coreInRange addressInRange latchesInRange
 in-range xs k e b h m tr modification =
     let p = and-eq-true-iff (addressInRange (k .address)) (latchesInRange (k .latches)) .0 h in

@@ -50,7 +50,9 @@ tail-length k = refl
 pub stored : (d xs : List ℕ) (k : Core) → length d ≡ 41 → length xs ≡ 26 → filledOf (filledOf d 0 xs 26) 26 (tailOf k) 15 ≡ storedOf xs k d
 unfolding filledOf storedOf
 stored d xs k e f =
-    rw (take-padded xs 26 f, take-padded (tailOf k) 15 (tail-length k), take-at xs (drop 26 d) 26 f, drop-of-length-le (xs ++ drop 26 d) {i = 41} (simp (length-append, length-drop) (omega arith)), eq-eqb (length d) 41 e) (append-nil (xs ++ tailOf k))
+    let none = drop-of-length-le (xs ++ drop 26 d) {i = 41} (simp (length-append, length-drop) (omega arith)) in
+    rw (take-padded xs 26 f, take-padded (tailOf k) 15 (tail-length k), take-at xs (drop 26 d) 26 f, none, eq-eqb (length d) 41 e)
+    (append-nil (xs ++ tailOf k))
 
 -- a buffer of another length
 pub unstored : (d xs : List ℕ) (k : Core) → (length d ≡ 41 → ⊥) → d ≡ storedOf xs k d
