@@ -193,7 +193,8 @@ v-law p q [] (y ∷ qs) c v bp bq e = absurd (omega arith)
 v-law p q (x ∷ ps) [] c v bp bq e = absurd (omega arith)
 v-law p q (x ∷ ps) (y ∷ qs) c v bp bq e =
     v-law x y ps qs (addOf p q c .c8) (addOf p q c .v) (bp .1) (bq .1) (omega arith)
-    ∙ outside-digit (half (length ps)) (value (x ∷ ps)) (value (y ∷ qs)) p q (addOf p q c .result) c (addOf p q c .c8) (bp .0) (bq .0) (result-byte p q c) (byte-sum p q c (bp .0) (bq .0))
+    ∙ outside-digit (half (length ps)) (value (x ∷ ps)) (value (y ∷ qs)) p q (addOf p q c .result) c (addOf p q c .c8) (bp .0) (bq .0) (result-byte p q c)
+    (byte-sum p q c (bp .0) (bq .0))
     ∙ ap (λ (h : ℕ). sumOutside h (value (p ∷ x ∷ ps)) (value (q ∷ y ∷ qs)) c) (sym (step-up 128 (length ps)))
 
 -- the signed number of 255 - q for each byte, and that of the bytes, make one less than the range

@@ -112,4 +112,5 @@ module _ (g : ℕ) (f : Flags) (plan : Plan) (t : T (planFits plan)) where
   pub two-cycles-in-range : (xs : List ℕ) (low high : Designators) (odd : Bool) → FileInRange xs → FileInRange (twoCyclesOf xs g f plan low high odd .file)
   unfolding twoCyclesOf
   two-cycles-in-range xs low high odd h =
-      pick-all (λ (m : Leaves Flags). FileInRange (m .file)) (highFirstOf (plan .kind)) _ _ (joined-in-range xs high low true odd h) (joined-in-range xs low high false odd h)
+      pick-all (λ (m : Leaves Flags). FileInRange (m .file)) (highFirstOf (plan .kind)) _ _ (joined-in-range xs high low true odd h)
+      (joined-in-range xs low high false odd h)

@@ -29,7 +29,8 @@ use Rattle.attempt.specs.Effect.{jumpedOf, literalEffect, registerEffect, effec
 use Rattle.choose.proofs.Choice.{pick-all}
 use Rattle.attempt_laws.proofs.Files.{FileInRange, register-byte}
 use Rattle.attempt_laws.proofs.Registers.{literal-in-range, registers-in-range}
-use Rattle.attempt_laws.proofs.Control.{BusInRange, RequestInRange, LatchesInRange, WayInRange, AddressInRange, bus-in-range, request-in-range, used-in-range, latches-in-range, way-in-range, address-in-range}
+use Rattle.attempt_laws.proofs.Control.{BusInRange, RequestInRange, LatchesInRange, WayInRange, AddressInRange, bus-in-range, request-in-range}
+use Rattle.attempt_laws.proofs.Control.{used-in-range, latches-in-range, way-in-range, address-in-range}
 use Rattle.attempt_laws.proofs.Cases.{attempt-all}
 use Rattle.code.specs.Word.{Fit, jump, conditional, literal, register, WellFormed}
 use Rattle.attempt.specs.declared.Effect.{Effect}

@@ -11,7 +11,8 @@ use Rattle.state.proofs.Digits.{flag-byte-below}
 use Rattle.state.specs.declared.Core.{Core}
 use Rattle.cycles.specs.declared.Plan.{Plan}
 use Rattle.plan.specs.Plan.{plans, planOf, conditionMet, literalPlanOf}
-use Rattle.execute.specs.Execute.{designators, literalOf, copiedOf, steppedByOf, codes70To77Of, operationOf, conditionedOf, upperOf, selectedOf, inputOf, gainOf, accessOf, registersOf}
+use Rattle.execute.specs.Execute.{designators, literalOf, copiedOf, steppedByOf, codes70To77Of, operationOf, conditionedOf, upperOf, selectedOf}
+use Rattle.execute.specs.Execute.{inputOf, gainOf, accessOf, registersOf}
 use Rattle.choose.proofs.Choice.{end, _also_, pick-all, ranged-all, tested}
 use Rattle.attempt_laws.proofs.Files.{FileInRange, planFits, written-in-range, one-cycle-in-range, two-cycles-in-range}
 

@@ -26,7 +26,8 @@ use Rattle.deck.specs.Ranges.{wordsInRange, rowsPartInRange, samplesInRa
 use Rattle.deck.specs.Sections.{countAt, sectionEnd, layoutOf, wholeOf, wordsPart, rowsPart, statePart, samplesPart}
 use Rattle.deck.specs.Slip.{counted, Sections, Whole, WordsAllowed, RowsAllowed, SamplesAllowed, slip, FirstFailing}
 use Rattle.deck.proofs.Every.{rows-every}
-use Rattle.deck.proofs.Laws.{tested, fits, section-end-ge, part-length, whole-deck, section-bytes, word-below, samples-few, sample-in-range, rows-in-range}
+use Rattle.deck.proofs.Laws.{tested, fits, section-end-ge, part-length, whole-deck, section-bytes, word-below, samples-few, sample-in-range}
+use Rattle.deck.proofs.Laws.{rows-in-range}
 
 -- ---- the first test that fails
 -- t decides P

@@ -56,7 +56,8 @@ steppedByOf xs g f a by = oneCycleOf xs g f (planWith Kind.Add Operand.A (Operan
 unfoldable pub codes70To77Of : List ℕ → ℕ → Flags → ℕ → ℕ → ℕ → Leaves Flags
 codes70To77Of xs g f code b a =
     ranged code
-    ((0x72, leaves xs f) ∷ (0x73, copiedOf xs g f a) ∷ (0x74, leaves xs (loadedOf f (registerOf xs g a) b)) ∷ (0x76, leaves xs f) ∷ (0x77, steppedByOf xs g f a 0) ∷ [])
+    ((0x72, leaves xs f) ∷ (0x73, copiedOf xs g f a) ∷ (0x74, leaves xs (loadedOf f (registerOf xs g a) b)) ∷ (0x76, leaves xs f) ∷
+    (0x77, steppedByOf xs g f a 0) ∷ [])
     (steppedByOf xs g f a 255)
 
 -- 80-DF: bit 1 of the code tells words, which are pairs; bit 0 the odd codes

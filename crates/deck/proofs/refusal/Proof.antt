@@ -27,7 +27,8 @@ rows-is : (c : tie.After-rows-in-range) → let args = c .before .before .before
     rowsPartInRange (rowsPart (args .deck .now)) ≡ c .rows-in-range .result
 rows-is c = rw (c .rows-in-range .ensures, c .before .rows .ensures)
 
-samples-is : (c : tie.After-samples-in-range) → let args = c .before .before .before .before .before .before .before .before .before .before .before .before .before .before .args in
+samples-is : (c : tie.After-samples-in-range)
+    → let args = c .before .before .before .before .before .before .before .before .before .before .before .before .before .before .args in
     samplesInRange (samplesPart (args .deck .now)) && placesEnough (samplesPart (args .deck .now)) (args .requests-len)
     ≡ c .samples-in-range .result && placesEnough (c .before .samples .result .now) (args .requests-len)
 samples-is c = rw (c .samples-in-range .ensures, c .before .samples .ensures)
