@@ -14,7 +14,7 @@ use Rattle.choose.specs.Ranged.{pick}
 use Rattle.numbers.specs.Numbers.{wordAt}
 use Rattle.state.specs.declared.Core.{Core}
 use Rattle.state.specs.declared.Latches.{Latches}
-use Rattle.attempt_laws.specs.After.{bitAt, Modified}
+use Rattle.attempt_laws.specs.After.{hasBit, Modified}
 use Rattle.attempt_laws.specs.Fate.{takenWord}
 
 -- ---- one digit: what a test found of 0 and 1
@@ -28,12 +28,12 @@ module _ (f g : ℕ → ℕ → Bool) where
 
 -- ---- bit i
 
-pub or-bit : (i x y : ℕ) → bitAt i (bitOr x y) ≡ bitAt i x || bitAt i y
+pub or-bit : (i x y : ℕ) → hasBit i (bitOr x y) ≡ hasBit i x || hasBit i y
 or-bit i x y =
     rw (or-shr x y i, or-mod (x / 2 ^ i) (y / 2 ^ i) 1)
     (digits (λ p q. eqb (bitOr p q) 1) (λ p q. eqb p 1 || eqb q 1) tt (x / 2 ^ i % 2) (y / 2 ^ i % 2) (omega arith) (omega arith))
 
-pub and-bit : (i x y : ℕ) → bitAt i (bitAnd x y) ≡ bitAt i x && bitAt i y
+pub and-bit : (i x y : ℕ) → hasBit i (bitAnd x y) ≡ hasBit i x && hasBit i y
 and-bit i x y =
     rw (and-shr x y i, and-mod (x / 2 ^ i) (y / 2 ^ i) 1)
     (digits (λ p q. eqb (bitAnd p q) 1) (λ p q. eqb p 1 && eqb q 1) tt (x / 2 ^ i % 2) (y / 2 ^ i % 2) (omega arith) (omega arith))

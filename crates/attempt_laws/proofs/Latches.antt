@@ -14,7 +14,7 @@ use Rattle.choose.specs.Ranged.{pick}
 use Rattle.control.specs.Latches.{used, withInterrupts, inputLatchesOf, latchesAfter}
 use Rattle.state.specs.declared.Latches.{Latches}
 use Rattle.state.specs.declared.Sample.{Sample}
-use Rattle.attempt_laws.specs.After.{bitAt, LatchesAre}
+use Rattle.attempt_laws.specs.After.{hasBit, LatchesAre}
 use Rattle.attempt_laws.specs.Fate.{within}
 use Rattle.attempt_laws.proofs.Bits.{or-bit, and-bit}
 use Rattle.attempt_laws.proofs.Where.{other, _next_, ranged-where, Outside, inside, outside}
@@ -28,9 +28,9 @@ low-bit (suc (suc zero)) b h = omega arith
 low-bit (suc (suc (suc i))) b h = omega arith
 
 -- 7 less three bits has the others
-other-bit : (i n : ℕ) → i < 3 → n < 8 → bitAt i (7 - n) ≡ not (bitAt i n)
+other-bit : (i n : ℕ) → i < 3 → n < 8 → hasBit i (7 - n) ≡ not (hasBit i n)
 other-bit i n h l =
-    let same : ℕ → ℕ → Bool = λ i n. Bool·beq (bitAt i (7 - n)) (not (bitAt i n)) in
+    let same : ℕ → ℕ → Bool = λ i n. Bool·beq (hasBit i (7 - n)) (not (hasBit i n)) in
     equal-tests _ _ (below 8 (same i) (below 3 (λ i. allBelow 8 (same i)) tt i h) n l)
 
 cleared : (x t : Bool) → (x && not t) ≡ pick t false x
@@ -52,7 +52,7 @@ module _ (code b ra pair : ℕ) (s : Sample) (l : Latches) where
   Right = LatchesAre code b ra pair s l
 
   abbrev Turned : ℕ → Type 0
-  Turned n = (i : ℕ) → i < 3 → bitAt i n ≡ pick (within 0x70 0x71 code && bitAt i b) (eqb code 0x71) (bitAt i (l .interrupts))
+  Turned n = (i : ℕ) → i < 3 → hasBit i n ≡ pick (within 0x70 0x71 code && hasBit i b) (eqb code 0x71) (hasBit i (l .interrupts))
 
   -- by the lists that the code is in, IW apart
   by-lists : {lgl ltr mi : Bool} → eqb code 0x75 ≡ lgl → within 0xEE 0xEF code ≡ ltr → within 0xEC 0xED code ≡ mi → within 0xE2 0xE3 code ≡ false
@@ -80,13 +80,13 @@ module _ (code b ra pair : ℕ) (s : Sample) (l : Latches) where
   clears e i h =
       let listed = inside 0x70 0x71 code (omega arith) in
       rw (and-bit i (l .interrupts) (7 - b % 8), other-bit i (b % 8) h (omega arith), listed, ne-eqb code 0x71 (omega arith), low-bit i b h)
-      (cleared (bitAt i (l .interrupts)) (bitAt i (b % 8)))
+      (cleared (hasBit i (l .interrupts)) (hasBit i (b % 8)))
 
   sets : code ≡ 0x71 → Turned (bitOr (l .interrupts) (b % 8))
   sets e i h =
       let listed = inside 0x70 0x71 code (omega arith) in
       rw (or-bit i (l .interrupts) (b % 8), listed, eq-eqb code 0x71 e, low-bit i b h)
-      (set (bitAt i (l .interrupts)) (bitAt i (b % 8)))
+      (set (hasBit i (l .interrupts)) (hasBit i (b % 8)))
 
   -- IW, by b mod 4
   module _ (lo : 0xE2 ≤ code) (hi : code ≤ 0xE3) where

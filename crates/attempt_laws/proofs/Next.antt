@@ -14,7 +14,7 @@ use Rattle.control.specs.declared.Way.{Way}
 use Rattle.rows.specs.declared.Outputs.{Outputs}
 use Rattle.state.specs.declared.Core.{Core}
 use Rattle.state.specs.declared.Sample.{Sample}
-use Rattle.attempt_laws.specs.After.{bitAt, rowsSee, conditions, jumps, following, nextLc, AddressIs}
+use Rattle.attempt_laws.specs.After.{hasBit, rowsSee, conditions, jumps, following, nextLc, AddressIs}
 use Rattle.attempt_laws.specs.Fate.{odd, topIn}
 use Rattle.attempt_laws.proofs.Where.{other, _next_, ranged-where, inside, outside}
 
@@ -93,7 +93,7 @@ module _ (word : ℕ) (k : Core) (o : Outputs) where
 
   -- RR and TSR with it
   pub address-is : (way : Way) (code : ℕ) → Goes way → eqb code 0x74 ≡ eqb (topIn word) 0x74
-      → AddressIs word k o (addressAfter (k .address) way code (bitAt 16 word) o)
+      → AddressIs word k o (addressAfter (k .address) way code (hasBit 16 word) o)
   unfolding addressAfter rrOf tsrOf
   address-is way code goes same =
       let plus : (k .address .lc % 2048 + 1) % 2048 ≡ following (k .address .lc) = omega arith in
@@ -101,9 +101,9 @@ module _ (word : ℕ) (k : Core) (o : Outputs) where
 
 -- ---- what the rows see
 
-pub rows-see : (word : ℕ) (k : Core) (s : Sample) → inputsOf k (bitAt 17 word) s ≡ rowsSee word k s
+pub rows-see : (word : ℕ) (k : Core) (s : Sample) → inputsOf k (hasBit 17 word) s ≡ rowsSee word k s
 unfolding inputsOf trByteOf
 rows-see word k s =
-    let rni : bit (bitAt 17 word) ≡ word / 0x2_0000 % 2 = bit-is _ (omega arith) in
+    let rni : bit (hasBit 17 word) ≡ word / 0x2_0000 % 2 = bit-is _ (omega arith) in
     let order : k .latches .interrupts % 8 * 16 ≡ 16 * (k .latches .interrupts % 8) = omega arith in
     rw (rni, order)

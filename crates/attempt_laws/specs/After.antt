@@ -19,15 +19,15 @@ use Rattle.state.specs.declared.Sample.{Sample}
 use Rattle.attempt_laws.specs.Fate.{within, odd, oneOf, twoCycle, inputWord, topIn, bIn, aIn}
 
 -- bit i of a number, of weight 2^i
-abbrev pub bitAt : ℕ → ℕ → Bool
-bitAt i n = eqb (n / 2 ^ i % 2) 1
+abbrev pub hasBit : ℕ → ℕ → Bool
+hasBit i n = eqb (n / 2 ^ i % 2) 1
 
 -- ---- the word
 
 -- "the word at LC is taken and a waiting modification is ORed into its low 16 bits": each of them is 1 where it is 1 in one of the two, and those
 -- above are the word's own
 pub record Modified (word : ℕ) (marked : Bool) (modification taken : ℕ) : Type 0 where
-  pub low : (i : ℕ) → i < 16 → bitAt i taken ≡ bitAt i word || (marked && bitAt i modification)
+  pub low : (i : ℕ) → i < 16 → hasBit i taken ≡ hasBit i word || (marked && hasBit i modification)
   pub high : taken / 2 ^ 16 ≡ word / 2 ^ 16
 
 -- "Rb:Ra before any change", Rb high, by "G before the attempt"
@@ -45,7 +45,7 @@ rowsSee word k s =
     record {
       lc = k .address .lc;
       rni = word / 2 ^ 17 % 2;
-      tr = pick (bitAt 2 (k .address .tsr)) (k .latches .tr % 256) (k .latches .tr / 256);
+      tr = pick (hasBit 2 (k .address .tsr)) (k .latches .tr % 256) (k .latches .tr / 256);
       tsr = k .address .tsr % 4;
       interrupts = s .interrupts % 16 + 16 * (k .latches .interrupts % 8);
     }
@@ -69,15 +69,15 @@ nextLc word k o =
     pick (within 0x00 0x07 (topIn word)) (word % 2048)
     (pick (within 0x08 0x0F (topIn word)) (k .address .rr)
     (pick (jumps (topIn word) (k .flags) (k .latches .ics)) (k .address .lc / 256 * 256 + word % 256)
-    (pick (bitAt 1 (o .lines)) (k .address .rr)
-    (pick (bitAt 0 (o .lines)) (o .address)
+    (pick (hasBit 1 (o .lines)) (k .address .rr)
+    (pick (hasBit 0 (o .lines)) (o .address)
     (following (k .address .lc))))))
 
 -- "Bit 16 loads RR with LC+1 on every executed word, jump taken or not"; "LTSR loads the ORed new TSR; RTSR clears TSR and wins", RTSR is 74
 pub record AddressIs (word : ℕ) (k : Core) (o : Outputs) (after : Address) : Type 0 where
   pub lc : after .lc ≡ nextLc word k o
-  pub rr : after .rr ≡ pick (bitAt 16 word) (following (k .address .lc)) (k .address .rr)
-  pub tsr : after .tsr ≡ pick (eqb (topIn word) 0x74) 0 (pick (bitAt 2 (o .lines)) (o .«new_tsr») (k .address .tsr))
+  pub rr : after .rr ≡ pick (hasBit 16 word) (following (k .address .lc)) (k .address .rr)
+  pub tsr : after .tsr ≡ pick (eqb (topIn word) 0x74) 0 (pick (hasBit 2 (o .lines)) (o .«new_tsr») (k .address .tsr))
 
 -- ---- the bus. Reads and writes are F0-FB, RA and WA FA and FB of them, OB and OW FC and FD, OS FE, IB and IW E0-E3
 
@@ -128,7 +128,7 @@ pub record LatchesAre (code b ra pair : ℕ) (s : Sample) (before after : Latche
   -- "ICS is loaded from the sample by IW with b mod 4 not 0; no other instruction changes it"
   pub ics : after .ics ≡ pick (iw code b 1 3) (s .ics) (before .ics)
   -- "RI and SI clear and set I4-I6 by b bits 0-2; bit 3 does nothing"
-  pub interrupts : (i : ℕ) → i < 3 → bitAt i (after .interrupts) ≡ pick (within 0x70 0x71 code && bitAt i b) (eqb code 0x71) (bitAt i (before .interrupts))
+  pub interrupts : (i : ℕ) → i < 3 → hasBit i (after .interrupts) ≡ pick (within 0x70 0x71 code && hasBit i b) (eqb code 0x71) (hasBit i (before .interrupts))
   -- "execution, which uses the modification up (..; MI sets the next)": "LTR loads TR, MI the modification, with Rb:Ra"
   pub marked : after .marked ≡ within 0xEC 0xED code
   pub modification : after .modification ≡ pick (within 0xEC 0xED code) pair 0

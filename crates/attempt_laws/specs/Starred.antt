@@ -27,13 +27,13 @@ pub data Case : Type 0 where
 -- ---- what it says
 
 -- "G0-GB, R2-RF"
-abbrev pub placeOf : Register → ℕ
-placeOf (G j) = j
-placeOf (R d) = 10 + d
+abbrev pub placeNamed : Register → ℕ
+placeNamed (G j) = j
+placeNamed (R d) = 10 + d
 
 abbrev pub holding : Held → List ℕ
 holding [] = replicate 26 0
-holding (r ∷ rs) = set (holding rs) (placeOf (r .0)) (r .1)
+holding (r ∷ rs) = set (holding rs) (placeNamed (r .0)) (r .1)
 
 -- all zero but G and C
 abbrev pub core : ℕ → Bool → Core
@@ -60,23 +60,23 @@ abbrev pub shows : Flags → List (Flag × Bool) → Bool
 shows f [] = true
 shows f (m ∷ ms) = Bool·beq (flagOf (m .0) f) (m .1) && shows f ms
 
-abbrev pub same : List ℕ → List ℕ → Bool
-same [] [] = true
-same [] (y ∷ ys) = false
-same (x ∷ xs) [] = false
-same (x ∷ xs) (y ∷ ys) = eqb x y && same xs ys
+abbrev pub sameBytes : List ℕ → List ℕ → Bool
+sameBytes [] [] = true
+sameBytes [] (y ∷ ys) = false
+sameBytes (x ∷ xs) [] = false
+sameBytes (x ∷ xs) (y ∷ ys) = eqb x y && sameBytes xs ys
 
 -- it completes, with these microcycles and no request, LC goes from 0 to 1, and the registers and flags are these
-abbrev pub ends : Leaves Outcome → ℕ → List ℕ → List (Flag × Bool) → Bool
-ends e cycles file flags =
+abbrev pub endsWith : Leaves Outcome → ℕ → List ℕ → List (Flag × Bool) → Bool
+endsWith e cycles file flags =
     eqb (e .back .refusal) 0 && eqb (e .back .cycles) cycles && eqb (e .back .request) 0 && eqb (e .back .core .address .lc) 1 &&
-    same (e .file) file &&
+    sameBytes (e .file) file &&
     shows (e .back .core .flags) flags
 
 -- the word alone at LC 0, no rows
 unfoldable pub caseHolds : Case → Bool
 caseHolds (case g c word cycles before after flags) =
-    ends (attemptOf (word % 256 ∷ word / 256 ∷ 0 ∷ 0 ∷ []) [] (holding before) (core g c) computing) cycles (holding after) flags
+    endsWith (attemptOf (word % 256 ∷ word / 256 ∷ 0 ∷ 0 ∷ []) [] (holding before) (core g c) computing) cycles (holding after) flags
 
 unfoldable pub allHold : List Case → Bool
 allHold [] = true

@@ -25,7 +25,7 @@ use Rattle.state.specs.declared.Sample.{Sample}
 use Rattle.state_bytes.specs.Bytes.{fileOf, coreOf, bytesOf}
 use Rattle.state_bytes.proofs.Laws.{state-in-range, stored-bytes}
 use Rattle.run_laws.specs.Attempts.{sumBelow, stateAfter, stateOf, Ran}
-use Rattle.run_laws.specs.Returned.{deckRows, deckSamples, deckState, stateIn, attemptIn, Returned, Refused}
+use Rattle.run_laws.specs.Returned.{deckRows, sampleCount, deckState, stateIn, attemptIn, Returned, Refused}
 use Rattle.run_laws.proofs.Again.{sample-in-its-range}
 use Rattle.run_laws.proofs.Attempts.{run-ran, ran-same}
 use Rattle.run_laws.proofs.Places.{run-places}
@@ -48,27 +48,27 @@ module _ (deck requests state : List ℕ) (b : Bytes deck) (h : deckRefusalOf de
   abbrev first : World
   first = world (fileOf (statePart deck)) (coreOf (statePart deck)) 0 0 0 requests
 
-  ran : Ran (wordsPart deck) (deckRows deck) (sampleAt (samplesPart deck)) (deckSamples deck) first (deckRun deck requests)
+  ran : Ran (wordsPart deck) (deckRows deck) (sampleAt (samplesPart deck)) (sampleCount deck) first (deckRun deck requests)
   unfolding deckRun
   ran =
       let s = samplesPart deck in
-      let n = deckSamples deck in
+      let n = sampleCount deck in
       let d = sampleAt s 0 in
       let all = run-ran (wordsPart deck) (deckRows deck) (samplesFrom s 0 n) d first refl in
       ran-same _ _ _ (sampleAt s) n _ _ (rw (samples-length s n 0) at all) (λ j l. sample-of s d n 0 j l ∙ ap (sampleAt s) (omega arith))
 
-  samples-each : (j : ℕ) → j < deckSamples deck → SampleInRange (sampleAt (samplesPart deck) j)
+  samples-each : (j : ℕ) → j < sampleCount deck → SampleInRange (sampleAt (samplesPart deck) j)
   samples-each j l =
       let a = accepted deck (length requests) (length state) h in
       sample-in-its-range (samplesPart deck) (section-bytes deck (layoutOf deck .samples) 4 b) (a .samples) j (omega arith)
 
-  state-each : (i : ℕ) → i ≤ deckSamples deck → InRange (stateIn deck i .file) (stateIn deck i .back)
+  state-each : (i : ℕ) → i ≤ sampleCount deck → InRange (stateIn deck i .file) (stateIn deck i .back)
   state-each i l =
       let a = accepted deck (length requests) (length state) h in
       after-in-range _ _ (rows-in-range (rowsPart deck) (a .rows) .1) _ (deckState deck)
       (state-in-range (statePart deck) (section-bytes deck (layoutOf deck .state) 41 b) (a .state)) i (λ j m. samples-each j (omega arith))
 
-  returned : (i : ℕ) → ran .made ≡ i → i ≤ deckSamples deck → Returned deck requests (hostOf deck requests state) i
+  returned : (i : ℕ) → ran .made ≡ i → i ≤ sampleCount deck → Returned deck requests (hostOf deck requests state) i
   unfolding deckRun
   returned i e l =
       rw (← answers deck requests state h (deckRun deck requests) refl)
@@ -90,8 +90,8 @@ module _ (deck requests state : List ℕ) (b : Bytes deck) (h : deckRefusalOf de
       })
 
   -- 0, "all samples used": every attempt passed
-  pub host-used : hostOf deck requests state .report .answer ≡ 0 → Returned deck requests (hostOf deck requests state) (deckSamples deck)
-  host-used z = returned (deckSamples deck) (ran .used (rw (← answers deck requests state h (deckRun deck requests) refl) at z)) (omega arith)
+  pub host-used : hostOf deck requests state .report .answer ≡ 0 → Returned deck requests (hostOf deck requests state) (sampleCount deck)
+  host-used z = returned (sampleCount deck) (ran .used (rw (← answers deck requests state h (deckRun deck requests) refl) at z)) (omega arith)
 
   -- "Numbers 5-8 return the state before the refused attempt and the counts up to it; the places of earlier attempts are written, the others are untouched"
   pub host-refused : (hostOf deck requests state .report .answer ≡ 0 → ⊥)

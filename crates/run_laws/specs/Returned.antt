@@ -18,8 +18,8 @@ use Rattle.run_laws.specs.Attempts.{sumBelow, stateAfter, attemptAt}
 abbrev pub deckRows : List ℕ → List Row
 deckRows deck = rowsOf (rowsPart deck) (length (rowsPart deck) / 16)
 
-abbrev pub deckSamples : List ℕ → ℕ
-deckSamples deck = length (samplesPart deck) / 4
+abbrev pub sampleCount : List ℕ → ℕ
+sampleCount deck = length (samplesPart deck) / 4
 
 abbrev pub deckState : List ℕ → Leaves Core
 deckState deck = leaves (fileOf (statePart deck)) (coreOf (statePart deck))
@@ -44,6 +44,6 @@ pub record Returned (deck requests : List ℕ) (h : Hosted) (i : ℕ) : Type 0 w
 
 -- "Numbers 5-8 return the state before the refused attempt and the counts up to it": attempt i is refused with the number that is answered
 pub record Refused (deck requests : List ℕ) (h : Hosted) (i : ℕ) : Type 0 where
-  pub sample : i < deckSamples deck
+  pub sample : i < sampleCount deck
   pub number : attemptIn deck i .back .refusal ≡ h .report .answer
   pub returned : Returned deck requests h i

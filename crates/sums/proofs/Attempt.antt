@@ -26,7 +26,8 @@ use Rattle.rows.specs.Scan.{none}
 use Rattle.state.specs.declared.Core.{Core}
 use Rattle.state.specs.declared.Latches.{Latches}
 use Rattle.state.specs.declared.Sample.{Sample}
-use Rattle.sums.specs.Sums.{Step, Sign, following, stepCode, instructionOf, isPair, sourceOf, targetOf}
+use Rattle.sums.specs.Sums.{Step, Sign, stepCode, instructionOf, isPair, sourceOf, targetOf}
+use Rattle.attempt_laws.specs.After.{following}
 use Rattle.sums.specs.Sums.Step.{byte, pair}
 use Rattle.sums.proofs.Codes.{cycles, pairs, options, goes-on, bus-kept, latches-kept, no-request, no-rtsr, working, class, no-cad, word-bit, stepCarry}
 use Rattle.sums.proofs.Cycles.{Fits, stepMade, step-is}

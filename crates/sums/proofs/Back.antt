@@ -13,7 +13,7 @@ use Rattle.alu.proofs.Laws.{value-below}
 use Rattle.alu.specs.Numbers.{value}
 use Rattle.engine.specs.Run.{World}
 use Rattle.numbers.specs.Numbers.{Bytes}
-use Rattle.sums.specs.Sums.{Cut, targets, sources, byteCount, placeOf, registersAt, Elsewhere, targetIn, sourceIn, Summed, TwoCuts, Back}
+use Rattle.sums.specs.Sums.{Cut, targets, sources, byteCount, placeOf, registersAt, PlaceOfNone, targetIn, sourceIn, Summed, TwoCuts, Back}
 use Rattle.sums.specs.Sums.Sign.{plus, minus}
 use Rattle.sums.proofs.Chain.{Separate, separate, separate-tail}
 use Rattle.sums.proofs.Given.{same-length, registers-length, registers-bytes, all-agree}
@@ -44,12 +44,12 @@ bytes-same (x ∷ xs) (y ∷ ys) bx by l e =
 
 -- ---- registers
 
-away : (ds : List ℕ) (e : ℕ) (es : List ℕ) → Separate ds (e ∷ es) → Elsewhere (placeOf e) ds
+away : (ds : List ℕ) (e : ℕ) (es : List ℕ) → Separate ds (e ∷ es) → PlaceOfNone (placeOf e) ds
 away [] e es h = tt
 away (d ∷ ds) e es h = ((λ q. h .2 .0 (sym q)), away ds e es (h .3))
 
 -- where no other register than ds changes, es that stand apart are as before
-kept : (xs ys ds es : List ℕ) → Separate ds es → ((i : ℕ) → Elsewhere i ds → getD ys i 0 ≡ getD xs i 0) → registersAt ys es ≡ registersAt xs es
+kept : (xs ys ds es : List ℕ) → Separate ds es → ((i : ℕ) → PlaceOfNone i ds → getD ys i 0 ≡ getD xs i 0) → registersAt ys es ≡ registersAt xs es
 kept xs ys ds [] h f = refl
 kept xs ys ds (e ∷ es) h f = ap₂ _∷_ (f (placeOf e) (away ds e es h)) (kept xs ys ds es (separate-tail ds e es h) f)
 

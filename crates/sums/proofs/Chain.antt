@@ -18,7 +18,7 @@ use Rattle.state.specs.File.{Leaves, leaves}
 use Rattle.engine.specs.Run.{World}
 use Rattle.numbers.specs.Numbers.{Bytes}
 use Rattle.numbers.proofs.Laws.{set-bytes}
-use Rattle.sums.specs.Sums.{Step, Cut, Sign, targets, sources, Absent, Different, placeOf, registersAt, lastTargets, Elsewhere}
+use Rattle.sums.specs.Sums.{Step, Cut, Sign, targets, sources, Absent, Different, placeOf, registersAt, lastTargets, PlaceOfNone}
 use Rattle.sums.specs.Sums.Sign.{plus, minus}
 use Rattle.sums.specs.Sums.Step.{byte, pair}
 use Rattle.sums.proofs.Codes.{stepCarry}
@@ -97,7 +97,7 @@ chain-bytes sign xs c (a ∷ ds) (b ∷ bs) h =
     chain-bytes sign (fileAt sign xs c a b) (y .c8) ds bs
     (set-bytes xs (placeOf a) (y .result) h (result-byte (getD xs (placeOf a) 0) (addend sign (getD xs (placeOf b) 0)) c))
 
-pub chain-other : (sign : Sign) (xs : List ℕ) (c : Bool) (ds bs : List ℕ) (i : ℕ) → Elsewhere i ds
+pub chain-other : (sign : Sign) (xs : List ℕ) (c : Bool) (ds bs : List ℕ) (i : ℕ) → PlaceOfNone i ds
     → getD (chainFile sign xs c ds bs) i 0 ≡ getD xs i 0
 chain-other sign xs c [] bs i n = refl
 chain-other sign xs c (a ∷ ds) [] i n = refl
@@ -106,7 +106,7 @@ chain-other sign xs c (a ∷ ds) (b ∷ bs) i n =
     chain-other sign (fileAt sign xs c a b) (y .c8) ds bs i (n .1) ∙ getD-set-other xs (placeOf a) i (y .result) 0 (n .0)
 
 -- a write to a leaves the registers elsewhere
-registers-kept : (xs : List ℕ) (a v : ℕ) (ds : List ℕ) → Elsewhere (placeOf a) ds → registersAt (set xs (placeOf a) v) ds ≡ registersAt xs ds
+registers-kept : (xs : List ℕ) (a v : ℕ) (ds : List ℕ) → PlaceOfNone (placeOf a) ds → registersAt (set xs (placeOf a) v) ds ≡ registersAt xs ds
 registers-kept xs a v [] n = refl
 registers-kept xs a v (d ∷ ds) n =
     ap₂ _∷_ (getD-set-other xs (placeOf a) (placeOf d) v 0 (λ e. n .0 (sym e))) (registers-kept xs a v ds (n .1))
@@ -120,29 +120,29 @@ register-there xs a v l h = getD-set-same xs (placeOf a) v 0 (omega arith)
 -- each target has a place of its own in the file, and none of a source's
 abbrev pub Separate : List ℕ → List ℕ → Type 0
 Separate [] bs = Unit {0}
-Separate (a ∷ ds) bs = (a ≤ 0xF) × Elsewhere (placeOf a) ds × Elsewhere (placeOf a) bs × Separate ds bs
+Separate (a ∷ ds) bs = (a ≤ 0xF) × PlaceOfNone (placeOf a) ds × PlaceOfNone (placeOf a) bs × Separate ds bs
 
 pub separate-tail : (ds : List ℕ) (b : ℕ) (bs : List ℕ) → Separate ds (b ∷ bs) → Separate ds bs
 separate-tail [] b bs h = tt
 separate-tail (a ∷ ds) b bs h = (h .0, h .1, h .2 .1, separate-tail ds b bs (h .3))
 
-elsewhere : (a : ℕ) (ds : List ℕ) → Absent a ds → Elsewhere (placeOf a) ds
-elsewhere a [] n = tt
-elsewhere a (d ∷ ds) n = ((λ e. n .0 (omega arith)), elsewhere a ds (n .1))
+place-of-none : (a : ℕ) (ds : List ℕ) → Absent a ds → PlaceOfNone (placeOf a) ds
+place-of-none a [] n = tt
+place-of-none a (d ∷ ds) n = ((λ e. n .0 (omega arith)), place-of-none a ds (n .1))
 
-elsewhere-left : (i : ℕ) (ds bs : List ℕ) → Elsewhere i (ds ++ bs) → Elsewhere i ds
-elsewhere-left i [] bs h = tt
-elsewhere-left i (d ∷ ds) bs h = (h .0, elsewhere-left i ds bs (h .1))
+place-of-none-left : (i : ℕ) (ds bs : List ℕ) → PlaceOfNone i (ds ++ bs) → PlaceOfNone i ds
+place-of-none-left i [] bs h = tt
+place-of-none-left i (d ∷ ds) bs h = (h .0, place-of-none-left i ds bs (h .1))
 
-elsewhere-right : (i : ℕ) (ds bs : List ℕ) → Elsewhere i (ds ++ bs) → Elsewhere i bs
-elsewhere-right i [] bs h = h
-elsewhere-right i (d ∷ ds) bs h = elsewhere-right i ds bs (h .1)
+place-of-none-right : (i : ℕ) (ds bs : List ℕ) → PlaceOfNone i (ds ++ bs) → PlaceOfNone i bs
+place-of-none-right i [] bs h = h
+place-of-none-right i (d ∷ ds) bs h = place-of-none-right i ds bs (h .1)
 
 pub separate : (ds bs : List ℕ) → Different (ds ++ bs) → Separate ds bs
 separate [] bs h = tt
 separate (a ∷ ds) bs h =
-    let n = elsewhere a (ds ++ bs) (h .2) in
-    (h .1, elsewhere-left (placeOf a) ds bs n, elsewhere-right (placeOf a) ds bs n, separate ds bs (h .3))
+    let n = place-of-none a (ds ++ bs) (h .2) in
+    (h .1, place-of-none-left (placeOf a) ds bs n, place-of-none-right (placeOf a) ds bs n, separate ds bs (h .3))
 
 -- ---- the cycles over two lists of bytes
 

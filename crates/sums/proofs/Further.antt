@@ -10,7 +10,8 @@ use borrow.Author.Tests.{ltb-true, ltb-false}
 use Rattle.choose.specs.Ranged.{pick}
 use Rattle.engine.specs.Run.{World}
 use Rattle.numbers.specs.Numbers.{wordAt}
-use Rattle.sums.specs.Sums.{following, rrAfter, Advanced}
+use Rattle.sums.specs.Sums.{rrAfter, Advanced}
+use Rattle.attempt_laws.specs.After.{following}
 
 rr-further : (ws : List ℕ) (at n n′ rr : ℕ) → at < 2048 → rrAfter ws at (n + n′) rr ≡ rrAfter ws ((at + n) % 2048) n′ (rrAfter ws at n rr)
 rr-further ws at zero n′ rr h =

@@ -9,7 +9,7 @@ use lib.ListN.{length, getD, drop}
 use borrow.Author.Tests.{eqb-true, eqb-false, ltb-true}
 use Rattle.numbers.specs.Numbers.{Bytes}
 use Rattle.numbers.proofs.Laws.{byte-below}
-use Rattle.sums.specs.Sums.{Cut, Sign, targets, sources, byteCount, Different, Even, instructionsOf, placeOf, registersAt, Elsewhere}
+use Rattle.sums.specs.Sums.{Cut, Sign, targets, sources, byteCount, Different, Even, instructionsOf, placeOf, registersAt, PlaceOfNone}
 use Rattle.sums.specs.Sums.Step.{byte, pair}
 use Rattle.sums.proofs.Run.{AllFit}
 
@@ -71,8 +71,8 @@ bytes-tested (x ∷ xs) t =
     let both = and-eq-true-iff (ltb x 256) (bytesTest xs) .0 t in
     (ltb-true x 256 (both .0), bytes-tested xs (both .1))
 
--- files that agree in registers and elsewhere agree everywhere
-pub all-agree : (xs ys : List ℕ) (i : ℕ) (ds : List ℕ) → registersAt ys ds ≡ registersAt xs ds → (Elsewhere i ds → getD ys i 0 ≡ getD xs i 0)
+-- files that agree in registers and place-of-none agree everywhere
+pub all-agree : (xs ys : List ℕ) (i : ℕ) (ds : List ℕ) → registersAt ys ds ≡ registersAt xs ds → (PlaceOfNone i ds → getD ys i 0 ≡ getD xs i 0)
     → getD ys i 0 ≡ getD xs i 0
 all-agree xs ys i [] e f = f tt
 all-agree xs ys i (d ∷ ds) e f =

@@ -6,6 +6,7 @@ use mathlib.Core.Bool.{Bool, true, false, not}
 use mathlib.Core.List.{List, [], _∷_, _++_}
 use lib.Dec.{eqb, ltb, leb}
 use lib.ListN.{length, getD}
+use Rattle.attempt_laws.specs.After.{following}
 use Rattle.alu.specs.Cycle.{sumOutside}
 use Rattle.alu.specs.Numbers.{value, half, differenceOutside}
 use Rattle.alu.specs.declared.Flags.{Flags}
@@ -92,10 +93,6 @@ Even [] = Unit {0}
 Even (byte a b ∷ ts) = Even ts
 Even (pair a b ∷ ts) = (a % 2 ≡ 0) × (b % 2 ≡ 0) × Even ts
 
--- "LC+1 modulo 2,048": after 2047 comes 0
-abbrev pub following : ℕ → ℕ
-following at = (at + 1) % 2048
-
 -- the words in sequence from an address on have these bits 15-0, and any bits 21-16
 abbrev pub InPlace : List ℕ → ℕ → List ℕ → Type 0
 InPlace ws at [] = Unit {0}
@@ -141,9 +138,9 @@ registersAt xs [] = []
 registersAt xs (d ∷ ds) = getD xs (placeOf d) 0 ∷ registersAt xs ds
 
 -- i is the place of none of these registers
-abbrev pub Elsewhere : ℕ → List ℕ → Type 0
-Elsewhere i [] = Unit {0}
-Elsewhere i (d ∷ ds) = (i ≡ placeOf d → ⊥) × Elsewhere i ds
+abbrev pub PlaceOfNone : ℕ → List ℕ → Type 0
+PlaceOfNone i [] = Unit {0}
+PlaceOfNone i (d ∷ ds) = (i ≡ placeOf d → ⊥) × PlaceOfNone i ds
 
 -- the numbers in the registers of the target and of the source
 abbrev pub targetIn : List ℕ → Cut → ℕ
@@ -229,7 +226,7 @@ pub record Summed (sign : Sign) (cut : Cut) (ws : List ℕ) (v w : World) : Type
   pub target : targetIn (w .file) cut ≡ resultOf sign (byteCount cut) (targetIn (v .file) cut) (sourceIn (v .file) cut)
   pub flags : Marked sign (byteCount cut) (targetIn (v .file) cut) (sourceIn (v .file) cut) (lastIn (w .file) cut) (w .core .flags)
   -- no other register changes, the source among them; the file stays in range
-  pub others : (i : ℕ) → Elsewhere i (targets cut) → getD (w .file) i 0 ≡ getD (v .file) i 0
+  pub others : (i : ℕ) → PlaceOfNone i (targets cut) → getD (w .file) i 0 ≡ getD (v .file) i 0
   pub file : length (w .file) ≡ 26
   pub bytes : Bytes (w .file)
 

@@ -42,7 +42,7 @@ use Rattle.state.specs.Range.{InRange, SampleInRange}
 use Rattle.state.specs.declared.Core.{Core}
 use Rattle.state.specs.declared.Sample.{Sample}
 use Rattle.table_laws.specs.Operations.{Result, sumOf, operations}
-use Rattle.table_laws.specs.Set.{conditionFails, ConditionHolds, Copied, Loaded, rbAfter, Gained, Gains, setsNothing, Sets, listsWith}
+use Rattle.table_laws.specs.Set.{conditionFails, ConditionHolds, Copied, LcfLoaded, rbAfter, Gained, Gains, setsNothing, Sets, listsWith}
 use Rattle.table_laws.proofs.Arithmetic.{no, Same, byte-same}
 use Rattle.table_laws.proofs.Lines.{lines, access-is, within-is}
 use Rattle.table_laws.proofs.Performed.{register-below}
@@ -53,7 +53,7 @@ copied : (xs : List ℕ) (g a : ℕ) (f : Flags) → length xs ≡ 26 → let m 
 unfolding copiedOf flagByteOf nibbleOf
 copied xs g a f size = record { stored = written-same xs g a _ size ∙ omega arith; flags = refl }
 
-loaded : (xs : List ℕ) (ra b : ℕ) (f : Flags) → ra < 256 → Loaded ra b xs xs f (loadedOf f ra b)
+loaded : (xs : List ℕ) (ra b : ℕ) (f : Flags) → ra < 256 → LcfLoaded ra b xs xs f (loadedOf f ra b)
 unfolding loadedOf flagsOf
 loaded xs ra b f h =
     let top : ra / 128 % 2 ≡ ra / 128 = mod-eq-of-lt (omega arith) in
@@ -162,11 +162,11 @@ module _ (xs : List ℕ) (k : Core) (s : Sample) (o : Outputs) (word : ℕ) (ran
       (omega arith) (omega arith)
       (copied xs g (aIn word) (k .flags) (range .size))
 
-  lcf-sets : code ≡ 0x73 → Loaded (registerOf xs (k .latches .g) (aIn word)) (bIn word) xs (executed .file) (k .flags) (executed .back .core .flags)
+  lcf-sets : code ≡ 0x73 → LcfLoaded (registerOf xs (k .latches .g) (aIn word)) (bIn word) xs (executed .file) (k .flags) (executed .back .core .flags)
   unfolding codes70To77Of
   lcf-sets e =
       let ra = registerOf xs (k .latches .g) (aIn word) in
-      at-70 (λ ys f. Loaded ra (bIn word) xs ys (k .flags) f) (leaves xs (loadedOf (k .flags) ra (bIn word)))
+      at-70 (λ ys f. LcfLoaded ra (bIn word) xs ys (k .flags) f) (leaves xs (loadedOf (k .flags) ra (bIn word)))
       (seventies-are (omega arith) (omega arith) ∙ in-arm code _ _ 2 0x73 tt (omega arith) (omega arith))
       (omega arith) (omega arith)
       (loaded xs ra (bIn word) (k .flags) (register-below (k .latches .g) xs (range .bytes) (aIn word)))

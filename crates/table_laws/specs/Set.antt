@@ -107,7 +107,7 @@ pub record Copied (g a : ℕ) (ys : List ℕ) (before after : Flags) : Type 0 wh
   pub flags : after ≡ before
 
 -- "LCF loads N Z V C from bits 7-4 of Ra where b bits 3-0 are 1"
-pub record Loaded (ra b : ℕ) (xs ys : List ℕ) (before after : Flags) : Type 0 where
+pub record LcfLoaded (ra b : ℕ) (xs ys : List ℕ) (before after : Flags) : Type 0 where
   pub unwritten : ys ≡ xs
   pub n : after .n ≡ pick (odd (b / 8)) (odd (ra / 128)) (before .n)
   pub z : after .z ≡ pick (odd (b / 4)) (odd (ra / 64)) (before .z)
@@ -153,7 +153,7 @@ setsNothing code =
 pub record Sets (xs : List ℕ) (k : Core) (s : Sample) (word : ℕ) (e : Leaves Outcome) : Type 0 where
   pub operation : Each (Performs xs k s word e) operations
   pub ccf : topOf word ≡ 0x72 → Copied (k .latches .g) (aIn word) (e .file) (k .flags) (e .back .core .flags)
-  pub lcf : topOf word ≡ 0x73 → Loaded (registerOf xs (k .latches .g) (aIn word)) (bIn word) xs (e .file) (k .flags) (e .back .core .flags)
+  pub lcf : topOf word ≡ 0x73 → LcfLoaded (registerOf xs (k .latches .g) (aIn word)) (bIn word) xs (e .file) (k .flags) (e .back .core .flags)
   -- RIW1, WIW1; RIW2, WIW2
   pub gain-one : within 0xF2 0xF3 (topOf word) ≡ true → Gains 1 xs k word e
   pub gain-two : within 0xF6 0xF7 (topOf word) ≡ true → Gains 2 xs k word e
