@@ -44,11 +44,11 @@ def sentences_have_two():
 def files_counted():
     """READING's tables have each file of definitions once, with its lines, and say their sums."""
     files = {str(p)[len("crates/"):]: len(text(p).splitlines()) for p in pathlib.Path("crates").glob("*/specs/*.antt") if p.stem != "Lib"}
-    counted = [(name, int(lines)) for name, lines in re.findall(r"^\| `([\w/.]+)` \| (\d+) \|", reading, re.M)]
+    counted = [(name, int(lines)) for name, lines in re.findall(r"^\| `([\w/]+\.antt)` \| (\d+) \|", reading, re.M)]
     yield from ((f"READING: {name} has {files.get(name)} lines and not {lines}", files.get(name) == lines) for name, lines in counted)
     yield from ((f"READING: {name} is in {n} tables", n == 1) for name in files for n in [sum(name == c for c, _ in counted)])
     for part in re.split(r"^## ", reading, flags=re.M):
-        table = re.findall(r"^\| `([\w/.]+)` \| (\d+) \|", part, re.M)
+        table = re.findall(r"^\| `([\w/]+\.antt)` \| (\d+) \|", part, re.M)
         said = re.search(r"(\d+) files, ([\d,]+) lines", part)
         if table:
             sums = said and (int(said[1]), int(said[2].replace(",", "")))
