@@ -3,6 +3,7 @@ pub mod Instructions
 pub mod Rows
 pub mod Theorem
 pub mod Fates
+pub mod Completes
 pub mod Arithmetic
 pub mod Performed
 pub mod Lines

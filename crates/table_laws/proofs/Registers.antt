@@ -1,16 +1,16 @@
 -- Only the registers that a word names change: 01's lists of codes beside the table's column, and 01's names beside the places of the file.
 -- Assumes nothing.
-use Prim.Native.Nat.{ℕ, _+_, _/_, _%_, _<_}
+use Prim.Native.Nat.{ℕ, _+_, _%_, _<_}
 use mathlib.Core.Path.{_≡_, refl, ap, sym, _∙_}
 use mathlib.Core.Bool.{Bool, true, false, _&&_, _||_, false≢true}
 use mathlib.Core.List.{List, [], _∷_}
 use native.Mathlib.Omega.{arith}
-use lib.Dec.{eqb, ltb, eqb→eq}
-use lib.ListN.{length, getD}
+use lib.Dec.{eqb, eqb→eq}
+use lib.ListN.{getD}
 use borrow.Author.Tests.{eqb-false}
 use Rattle.attempt.specs.Attempt.{attemptOf}
 use Rattle.attempt_laws.specs.Fate.{Fate, refused, waited, reset, compute-low, completed}
-use Rattle.attempt_laws.specs.Fate.{odd, noCode, oddPair, twoCycle, inputWord, bIn, aIn, wordFate, takenWord, fateOf}
+use Rattle.attempt_laws.specs.Fate.{odd, oddPair, twoCycle, inputWord, bIn, aIn, takenWord, fateOf}
 use Rattle.choose.proofs.Table.{below}
 use Rattle.choose.specs.Ranged.{pick, ranged}
 use Rattle.code.specs.CodeRows.{classOf, listed, storesOf, rowOf}
@@ -24,6 +24,7 @@ use Rattle.state.specs.declared.Sample.{Sample}
 use Rattle.table_laws.specs.Registers.{storesBoth, storesRa, storesBy, storedIn, Unnamed}
 use Rattle.table_laws.specs.Set.{storesByte, storesWord}
 use Rattle.table_laws.specs.Table.{comparesOrTests, storedBy, Elsewhere}
+use Rattle.table_laws.proofs.Completes.{word-completes, taken-completes}
 use Rattle.table_laws.proofs.Theorem.{attempt-registers, attempt-idle}
 
 -- ---- the column by 01's lists: a test that antt computes over the codes
@@ -90,36 +91,15 @@ even-a true input stores true b e f = no (sym f)
 even-a false true stores true b e f = no (sym f)
 even-a false false stores true b e f = no e
 
--- a choice that comes out completed
-passes : (t : Bool) (x y : Fate) → (x ≡ completed → ⊥) → pick t x y ≡ completed → (t ≡ false) × (y ≡ completed)
-passes true x y n e = absurd (n e)
-passes false x y n e = (refl, e)
-
-takes : (t : Bool) (x y : Fate) → (y ≡ completed → ⊥) → pick t x y ≡ completed → x ≡ completed
-takes true x y n e = e
-takes false x y n e = absurd (n e)
-
-not-refused : (n : ℕ) → refused n ≡ completed → ⊥
-not-refused n e = let z : _≡_ {A = ℕ} 0 1 = cc in omega arith
-
-module _ (ws : List ℕ) (k : Core) (s : Sample) where
-  -- "Refusal 7 tests a and b for the two-cycle codes 82-DF, and a alone for IW and ISW"
-  completed-pair : fateOf ws k s ≡ completed → oddPair (topOf (takenWord ws k)) (bIn (takenWord ws k)) (aIn (takenWord ws k)) ≡ false
-  unfolding fateOf wordFate
-  completed-pair e =
-      let word = takenWord ws k in
-      let computes = passes (s .reset) _ _ (λ q. let z : _≡_ {A = ℕ} 0 1 = cc in omega arith) e .1 in
-      let fetched = takes (s .compute) _ _ (λ q. let z : _≡_ {A = ℕ} 0 1 = cc in omega arith) computes in
-      let taken = takes (ltb word 0x40_0000) _ _ (not-refused 2) (takes (ltb (k .address .lc) (length ws / 4)) _ _ (not-refused 5) fetched) in
-      passes (oddPair (topOf word) (bIn word) (aIn word)) _ _ (not-refused 7) (passes (noCode (topOf word)) _ _ (not-refused 6) taken .1) .0
-
-  -- so Ra+1 is one of R2-RF or of G's two
-  completed-high : fateOf ws k s ≡ completed → storesWord (topOf (takenWord ws k)) ≡ true → aIn (takenWord ws k) + 1 < 0x10
-  unfolding oddPair storesWord
-  completed-high e w =
-      let word = takenWord ws k in
-      let even = even-a (twoCycle (topOf word)) (inputWord (topOf word)) _ (odd (aIn word)) (odd (bIn word)) w (completed-pair e) in
-      omega (arith, eqb-false (aIn word % 2) 1 even)
+-- so Ra+1 of a word that is stored is a designator too: "Refusal 7 tests a and b for the two-cycle codes 82-DF, and a alone for IW and ISW"
+completed-high : (ws : List ℕ) (k : Core) (s : Sample) → fateOf ws k s ≡ completed → storesWord (topOf (takenWord ws k)) ≡ true
+    → aIn (takenWord ws k) + 1 < 0x10
+unfolding oddPair storesWord
+completed-high ws k s e w =
+    let word = takenWord ws k in
+    let pair = word-completes word s (taken-completes ws k s e) .1 in
+    let even = even-a (twoCycle (topOf word)) (inputWord (topOf word)) _ (odd (aIn word)) (odd (bIn word)) w pair in
+    omega (arith, eqb-false (aIn word % 2) 1 even)
 
 module _ (g : ℕ) (range : g < 8) (i : ℕ) where
   -- a register of another name stands at another place
@@ -143,7 +123,7 @@ module _ (ws : List ℕ) (rs : List Row) (xs : List ℕ) (k : Core) (s : Sample)
       idle h = rw (attempt-idle ws rs xs k s h .0)
 
       go : (f : Fate) → fateOf ws k s ≡ f → getD (attemptOf ws rs xs k s .file) i 0 ≡ getD xs i 0
-      go (refused r) e = idle (λ q. not-refused r (sym e ∙ q))
+      go (refused r) e = idle (λ q. let z : _≡_ {A = ℕ} 0 1 = cc in omega arith)
       go waited e = idle (λ q. let z : _≡_ {A = ℕ} 0 1 = cc in omega arith)
       go reset e = idle (λ q. let z : _≡_ {A = ℕ} 0 1 = cc in omega arith)
       go compute-low e = idle (λ q. let z : _≡_ {A = ℕ} 0 1 = cc in omega arith)

@@ -1,11 +1,11 @@
 -- What a completed word sets: every line of the operations, CCF and LCF, the word forms of F0-F7, and what sets nothing. Assumes nothing.
 use Prim.Native.Nat.{ℕ, _/_, _%_, _<_, _≤_}
-use mathlib.Core.Path.{_≡_, refl, ap, ap₂, sym, _∙_}
+use mathlib.Core.Path.{_≡_, refl, ap₂, sym, _∙_}
 use mathlib.Core.Bool.{Bool, true, false, not, _&&_, _||_}
 use mathlib.Core.List.{List}
 use native.Mathlib.Nat.{mod-eq-of-lt}
 use native.Mathlib.Omega.{arith}
-use lib.Dec.{T, eqb, ltb, eqb→eq}
+use lib.Dec.{eqb, eqb→eq}
 use lib.ListN.{length, getD}
 use borrow.Author.Tests.{eqb-true, eqb-false, ne-eqb, eq-eqb}
 use Rattle.alu.specs.Cycle.{addOf, cycleOf}
@@ -17,12 +17,11 @@ use Rattle.attempt.specs.Attempt.{executedOf, outputsOf, attemptOf}
 use Rattle.attempt.specs.Effect.{jumpedOf, registerEffect, effectOf}
 use Rattle.attempt.specs.declared.Outcome.{Outcome}
 use Rattle.attempt_laws.proofs.Fate.{attempt-fate}
-use Rattle.attempt_laws.specs.Fate.{Fate, refused, reset, compute-low, completed, wordFate, takenWord, fateOf, EndsAs}
+use Rattle.attempt_laws.specs.Fate.{refused, completed, takenWord, fateOf, EndsAs}
 use Rattle.attempt_laws.specs.Fate.{within, noCode, oddPair, bIn, aIn}
 use Rattle.choose.proofs.Ranged.{in-arm, in-rest}
 use Rattle.choose.proofs.Table.{below}
 use Rattle.choose.proofs.Tests.{holds}
-use Rattle.choose.specs.Below.{allBelow}
 use Rattle.choose.specs.Ranged.{pick, ranged}
 use Rattle.code.proofs.Words.{apart-is}
 use Rattle.code.specs.CodeRows.{classOf, classes}
@@ -42,8 +41,10 @@ use Rattle.state.specs.Range.{InRange, SampleInRange}
 use Rattle.state.specs.declared.Core.{Core}
 use Rattle.state.specs.declared.Sample.{Sample}
 use Rattle.table_laws.specs.Operations.{Result, sumOf, operations}
-use Rattle.table_laws.specs.Set.{conditionFails, ConditionHolds, Copied, LcfLoaded, rbAfter, Gained, Gains, setsNothing, Sets, listsWith}
+use Rattle.table_laws.specs.Set.{ConditionHolds, Copied, LcfLoaded, rbAfter, Gained, Gains, setsNothing, Sets, listsWith}
 use Rattle.table_laws.proofs.Arithmetic.{no, Same, byte-same}
+use Rattle.table_laws.proofs.Completes.{word-completes, taken-completes}
+use Rattle.table_laws.proofs.Condition.{condition-holds}
 use Rattle.table_laws.proofs.Lines.{lines, access-is, within-is}
 use Rattle.table_laws.proofs.Performed.{register-below}
 
@@ -263,39 +264,6 @@ module _ (xs : List ℕ) (k : Core) (s : Sample) (o : Outputs) (word : ℕ) (ran
 
 -- ---- every completed attempt
 
--- "A failed condition (C, or ICS for CAWI, being 0)", by 01's list
-implied : (p q : ℕ → Bool) → T (allBelow 0x100 (λ x. pick (p x) (q x) true)) → (code : ℕ) → code < 0x100 → p code ≡ true → q code ≡ true
-implied p q t code h e = holds (q code) (rw e at (below 0x100 (λ x. pick (p x) (q x) true) t code h))
-
-condition-met : (code : ℕ) → code < 0x100 → (c ics : Bool) → conditionFails code c ics ≡ false → conditionMet code c ics ≡ true
-unfolding conditionFails conditionMet ranged
-condition-met code h true true e = implied (λ x. not (conditionFails x true true)) (λ x. conditionMet x true true) tt code h (ap not e)
-condition-met code h true false e = implied (λ x. not (conditionFails x true false)) (λ x. conditionMet x true false) tt code h (ap not e)
-condition-met code h false true e = implied (λ x. not (conditionFails x false true)) (λ x. conditionMet x false true) tt code h (ap not e)
-condition-met code h false false e = implied (λ x. not (conditionFails x false false)) (λ x. conditionMet x false false) tt code h (ap not e)
-
--- a word that completes is neither unlisted nor AC, and its pairs are even
-word-completes : (word : ℕ) (s : Sample) → wordFate word s ≡ completed
-    → (noCode (topOf word) ≡ false) × (oddPair (topOf word) (bIn word) (aIn word) ≡ false)
-unfolding wordFate
-word-completes word s e = go (ltb word 0x40_0000) (noCode (topOf word)) (oddPair (topOf word) (bIn word) (aIn word)) _ e
-  where
-    go : (t n d : Bool) (f : Fate) → pick t (pick n (refused 6) (pick d (refused 7) f)) (refused 2) ≡ completed → (n ≡ false) × (d ≡ false)
-    go true true d f e = let z : _≡_ {A = ℕ} 0 1 = cc in absurd (omega arith)
-    go true false true f e = let z : _≡_ {A = ℕ} 0 1 = cc in absurd (omega arith)
-    go true false false f e = (refl, refl)
-    go false n d f e = let z : _≡_ {A = ℕ} 0 1 = cc in absurd (omega arith)
-
-taken-completes : (ws : List ℕ) (k : Core) (s : Sample) → fateOf ws k s ≡ completed → wordFate (takenWord ws k) s ≡ completed
-unfolding fateOf
-taken-completes ws k s e = go (s .reset) (s .compute) (ltb (k .address .lc) (length ws / 4)) (wordFate (takenWord ws k) s) e
-  where
-    go : (r c l : Bool) (f : Fate) → pick r reset (pick c (pick l f (refused 5)) compute-low) ≡ completed → f ≡ completed
-    go true c l f e = let z : _≡_ {A = ℕ} 0 1 = cc in absurd (omega arith)
-    go false true true f e = e
-    go false true false f e = let z : _≡_ {A = ℕ} 0 1 = cc in absurd (omega arith)
-    go false false l f e = let z : _≡_ {A = ℕ} 0 1 = cc in absurd (omega arith)
-
 ends-sets : (word : ℕ) (xs : List ℕ) (k : Core) (s : Sample) (o : Outputs) (e : Leaves Outcome) → EndsAs word xs k s o e completed
     → (let code = topOf word in Sets xs k s word (executedOf xs k (fieldsIn (classOf code) word) s o)) → Sets xs k s word e
 ends-sets word xs k s o e (w, a, q) h =
@@ -309,7 +277,7 @@ attempt-sets ws rs xs k s range sample completes holding =
     let word = takenWord ws k in
     let o = outputsOf ws rs k s in
     let (listed, even) = word-completes word s (taken-completes ws k s completes) in
-    let met = condition-met (topOf word) (omega arith) (k .flags .c) (k .latches .ics) holding in
+    let met = condition-holds (k .flags .c) (k .latches .ics) (topOf word) (omega arith) holding in
     ends-sets word xs k s o (attemptOf ws rs xs k s) (rw completes at (attempt-fate ws rs xs k s)) (sets xs k s o word range sample listed even met)
 
 -- and the lists leave out no code that is not refused, and have none twice
