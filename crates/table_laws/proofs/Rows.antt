@@ -1,18 +1,18 @@
 -- The table's columns beside what the instructions say of themselves, and beside 01's lists: tests that antt computes over the codes.
 -- Assumes nothing.
-use Prim.Native.Nat.{ℕ, _*_, _/_, _<_}
+use Prim.Native.Nat.{ℕ, _+_, _*_, _/_, _<_}
 use mathlib.Core.Path.{_≡_}
-use mathlib.Core.Bool.{true, false, _&&_}
+use mathlib.Core.Bool.{Bool, true, false, _&&_}
 use lib.Dec.{eqb, ltb, eqb→eq, ltb→lt}
 use Rattle.alu.specs.declared.Flags.{Flags}
 use Rattle.attempt_laws.specs.Fate.{within}
 use Rattle.choose.proofs.Table.{below}
 use Rattle.choose.proofs.Tests.{both-left, both-right}
 use Rattle.choose.specs.Ranged.{pick, ranged}
-use Rattle.code.specs.CodeRows.{classOf, statusFlagsOf, conditionFlagsOf, storesOf, rowOf}
+use Rattle.code.specs.CodeRows.{classOf, listed, statusFlagsOf, conditionFlagsOf, storesOf, rowOf}
 use Rattle.code.specs.declared.Class.{Class}
 use Rattle.plan.specs.Plan.{planOf, literalPlanOf}
-use Rattle.table_laws.specs.Table.{comparesOrTests, setsConditions}
+use Rattle.table_laws.specs.Table.{comparesOrTests, setsConditions, marksIn}
 use Rattle.table_laws.proofs.Instructions.{Columns, nothing, literalColumns, columns70To77, registerColumns}
 
 -- ---- the table marks what the instructions say of themselves, and no more
@@ -58,3 +58,14 @@ literal-row top h e = ltb→lt _ _ (rw e at (below 0x100 (λ x. pick (within 0x2
 pub cl-row : (top : ℕ) → top < 0x100 → within 0x30 0x3F top ≡ true → rowOf top .flags ≡ 0x0C
 unfolding rowOf classOf ranged conditionFlagsOf statusFlagsOf
 cl-row top h e = eqb→eq _ _ (rw e at (below 0x100 (λ x. pick (within 0x30 0x3F x) (eqb (rowOf x .flags) 0x0C) true) tt top h))
+
+-- each listed code's row marks the flags that 5.3.2 marks, and no others
+flags-listed : (top : ℕ) → top < 0x100 → listed (classOf top) ≡ true → conditionFlagsOf top + statusFlagsOf top ≡ marksIn top
+unfolding setsConditions marksIn classOf ranged conditionFlagsOf statusFlagsOf
+flags-listed top h e =
+    let test : ℕ → Bool = λ x. eqb (conditionFlagsOf x + statusFlagsOf x) (marksIn x) in
+    eqb→eq _ _ (rw e at (below 0x100 (λ x. pick (listed (classOf x)) (test x) true) tt top h))
+
+pub row-flags : (top : ℕ) → top < 0x100 → listed (classOf top) ≡ true → rowOf top .flags ≡ marksIn top
+unfolding rowOf
+row-flags top h e = rw e (flags-listed top h e)

@@ -1,5 +1,5 @@
 -- What the columns `stores` and `flags` of the table say of the registers and the flags that an attempt leaves.
-use Prim.Native.Nat.{ℕ, _/_, _%_}
+use Prim.Native.Nat.{ℕ, _+_, _*_, _/_, _%_}
 use mathlib.Core.Path.{_≡_}
 use mathlib.Core.Bool.{Bool, _&&_, _||_}
 use mathlib.Core.List.{List, [], _∷_}
@@ -8,7 +8,7 @@ use lib.ListN.{length, getD}
 use Rattle.alu.specs.declared.Flags.{Flags}
 use Rattle.attempt.specs.declared.Outcome.{Outcome}
 use Rattle.attempt_laws.specs.Fate.{within, odd, bIn, aIn}
-use Rattle.choose.specs.Ranged.{ranged}
+use Rattle.choose.specs.Ranged.{bit, ranged}
 use Rattle.code.specs.CodeRows.{rowOf}
 use Rattle.code.specs.Word.{topOf}
 use Rattle.state.specs.File.{Leaves, leaves, slotOf, highOf}
@@ -72,3 +72,20 @@ comparesOrTests code = within 0x30 0x3F code || within 0x50 0x5F code || within 
 -- "condition flags (N Z V C) only by LCF and odd codes 81-DF and E1-E7": LCF is 73
 unfoldable pub setsConditions : ℕ → Bool
 setsConditions code = eqb code 0x73 || (odd code && (within 0x81 0xDF code || within 0xE1 0xE7 code))
+
+-- "Status (NB ZB C4 C8) is always set as 5.3.2 marks it": all four of AL, CIB and CDB, shifts left to decrements, shifts right, F0-F7; NB and ZB of CL, NL, TL and
+-- LL, moves, logic and inputs; else none
+abbrev pub setsCarries : ℕ → Bool
+setsCarries code = within 0x20 0x2F code || within 0x76 0x77 code || within 0x88 0xBF code || within 0xD8 0xDF code || within 0xF0 0xF7 code
+
+abbrev pub setsStatus : ℕ → Bool
+setsStatus code =
+    setsCarries code || within 0x30 0x6F code || within 0x80 0x87 code || within 0xC0 0xD3 code ||
+    within 0xE0 0xE7 code
+
+-- the marks of a code as a flag byte. An odd code writes N, Z and V, and C where it writes C8; LCF writes all four
+unfoldable pub marksIn : ℕ → ℕ
+marksIn code =
+    0x10 * bit (setsConditions code && (setsCarries code || eqb code 0x73)) + 0xE0 * bit (setsConditions code) +
+    0x0C * bit (setsStatus code) +
+    0x03 * bit (setsCarries code)
