@@ -73,7 +73,8 @@ comparesOrTests code = within 0x30 0x3F code || within 0x50 0x5F code || within 
 unfoldable pub setsConditions : ℕ → Bool
 setsConditions code = eqb code 0x73 || (odd code && (within 0x81 0xDF code || within 0xE1 0xE7 code))
 
--- "Status (NB ZB C4 C8) is always set as 5.3.2 marks it": all four of AL, CIB and CDB, shifts left to decrements, shifts right, F0-F7; NB and ZB of CL, NL, TL and
+-- "Status (NB ZB C4 C8) is always set as 5.3.2 marks it": all four of AL, CIB and CDB, shifts left to decrements, shifts right, F0-F7; NB and ZB of
+-- CL, NL, TL and
 -- LL, moves, logic and inputs; else none
 abbrev pub setsCarries : ℕ → Bool
 setsCarries code = within 0x20 0x2F code || within 0x76 0x77 code || within 0x88 0xBF code || within 0xD8 0xDF code || within 0xF0 0xF7 code
