@@ -1,7 +1,8 @@
 # make run: the bench host on every example, or on DECKS="mine.deck ...". make test: the gate.
 # make vectors, make requirements: write vectors/ and docs/REQUIREMENTS.md anew. make bench: engine against interpreter.
 # make fuzz: the fuzzer for ten minutes, or for FOR=SECONDS.
-.PHONY: run test vectors requirements bench fuzz
+# make definitions: each change of code and definition alike, and docs/DEFINITIONS.md anew; it takes an hour. ONLY="WORD ..": some of them.
+.PHONY: run test vectors requirements bench fuzz definitions
 
 run:
 	@host/run $(DECKS)
@@ -20,3 +21,6 @@ bench:
 
 fuzz:
 	@tests/fuzz/run $(or $(FOR),600) $$(date +%s)
+
+definitions:
+	@tests/definitions/write docs/DEFINITIONS.md $(ONLY)
