@@ -89,7 +89,7 @@ unfolding operandOf
 operand-byte Operand.A ra rb high t ha hb = ha
 operand-byte Operand.B ra rb high t ha hb = hb
 operand-byte (Operand.Number n) ra rb true t ha hb = omega (arith, ltb→lt n 65536 t)
-operand-byte (Operand.Number n) ra rb false t ha hb = omega arith
+operand-byte (Operand.Number n) ra rb false t ha hb = omega (arith, ltb→lt n 65536 t)
 
 module _ (g : ℕ) (f : Flags) (plan : Plan) (t : T (planFits plan)) where
   step-in-range : (xs : List ℕ) (at : Designators) (carry high : Bool) → FileInRange xs → FileInRange (stepOf xs g f plan at carry high .file)

@@ -46,32 +46,32 @@ module _ (xs : List ℕ) (g : ℕ) (f : Flags) (h : FileInRange xs) where
   unfolding literalOf
   literal-in-range code v a l =
       pick-all Keeps (eqb (code / 16) 3) _ _ h
-      (one-cycle-in-range g f _ (literal-plan-fits code v (lt→ltb v 65536 l)) xs (designators a a) false h)
+      (one-cycle-in-range g f _ (literal-plan-fits code v (lt→ltb v 65536 l)) xs (designators a a) _ h)
 
   copied-in-range : (a : ℕ) → Keeps (copiedOf xs g f a)
   unfolding copiedOf
-  copied-in-range a = written-in-range xs g a _ h (flag-byte-below f)
+  copied-in-range a = written-in-range xs g _ _ h (flag-byte-below f)
 
   stepped-by-in-range : (a by : ℕ) → T (ltb by 65536) → Keeps (steppedByOf xs g f a by)
   unfolding steppedByOf
-  stepped-by-in-range a by t = one-cycle-in-range g f _ t xs (designators a a) false h
+  stepped-by-in-range a by t = one-cycle-in-range g f _ t xs (designators a a) _ h
 
   codes-70-to-77-in-range : (code b a : ℕ) → Keeps (codes70To77Of xs g f code b a)
   unfolding codes70To77Of
   codes-70-to-77-in-range code b a =
-      ranged-all Keeps code _ (h also copied-in-range a also h also h also stepped-by-in-range a 0 tt also end) (stepped-by-in-range a 255 tt)
+      ranged-all Keeps code _ (h also copied-in-range a also h also h also stepped-by-in-range a _ tt also end) (stepped-by-in-range a _ tt)
 
-  worked-in-range : (code b a : ℕ) → Keeps (operationOf xs g f code b a)
+  operation-in-range : (code b a : ℕ) → Keeps (operationOf xs g f code b a)
   unfolding operationOf
-  worked-in-range code b a =
+  operation-in-range code b a =
       let t = plan-fits code f in
       pick-all Keeps (eqb (code / 2 % 2) 0) _ _
       (one-cycle-in-range g f _ t xs (designators a b) _ h)
       (two-cycles-in-range g f _ t xs (designators a b) (designators (highOf a) (highOf b)) _ h)
 
-  work-in-range : (ics : Bool) (code b a : ℕ) → Keeps (conditionedOf xs g f ics code b a)
+  conditioned-in-range : (ics : Bool) (code b a : ℕ) → Keeps (conditionedOf xs g f ics code b a)
   unfolding conditionedOf
-  work-in-range ics code b a = pick-all Keeps (conditionMet code (f .c) ics) _ _ (worked-in-range code b a) h
+  conditioned-in-range ics code b a = pick-all Keeps (conditionMet code (f .c) ics) _ _ (operation-in-range code b a) h
 
   input-in-range : (code dal m b a : ℕ) → dal < 65536 → Keeps (inputOf xs g f code dal m b a)
   unfolding inputOf
@@ -86,7 +86,7 @@ module _ (xs : List ℕ) (g : ℕ) (f : Flags) (h : FileInRange xs) where
       let t : T (ltb (gainOf code) 65536) = pick-all (λ (n : ℕ). T (ltb n 65536)) (eqb (code / 4 % 2) 0) _ _ tt tt in
       pick-all Keeps (eqb (code / 2 % 2) 0) _ _
       (one-cycle-in-range g f _ t xs (designators a a) false h)
-      (two-cycles-in-range g f _ t xs (designators a a) (designators b b) false h)
+      (two-cycles-in-range g f _ t xs _ _ _ h)
 
 pub registers-in-range : (xs : List ℕ) (core : Core) (dal code b a : ℕ) → FileInRange xs → dal < 65536 → Keeps (registersOf xs core dal code b a)
 unfolding registersOf
@@ -95,7 +95,7 @@ registers-in-range xs core dal code b a h l =
     let f = core .flags in
     ranged-all Keeps code _
     (codes-70-to-77-in-range xs g f h code b a also
-    work-in-range xs g f h (core .latches .ics) code b a also
+    conditioned-in-range xs g f h (core .latches .ics) code b a also
     input-in-range xs g f h code dal (core .bus .m) b a l also
     h also
     access-in-range xs g f h code b a also
