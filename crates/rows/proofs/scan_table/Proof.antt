@@ -242,4 +242,5 @@ scan-table-spec 𝓤 H 𝓜 𝓖 𝓡 =
     (scan-table-meets 𝓤 H (𝓖 .A) (givenOf 𝓤 H 𝓜 𝓖) (𝓜 .mem) (𝓡 .run) (tablesOf 𝓤 H 𝓜 (tables 𝓤 H 𝓜 𝓡 code.env))
     (cited 𝓤 H (Most 𝓤 H (𝓖 .A) (givenOf 𝓤 H 𝓜 𝓖) (𝓜 .mem) (𝓡 .run)) 𝓜 𝓡 code.env #rows·at-most-128 most-def.routine code.calls-rows·at-most-128
     (most-thm.met 𝓤 H 𝓜 𝓖 𝓡))
-    (cited 𝓤 H (Scan 𝓤 H (𝓖 .A) (givenOf 𝓤 H 𝓜 𝓖) (𝓜 .mem) (𝓡 .run)) 𝓜 𝓡 code.env #rows·scan scan-def.routine code.calls-rows·scan (scan-thm.met 𝓤 H 𝓜 𝓖 𝓡)))
+    (cited 𝓤 H (Scan 𝓤 H (𝓖 .A) (givenOf 𝓤 H 𝓜 𝓖) (𝓜 .mem) (𝓡 .run)) 𝓜 𝓡 code.env #rows·scan scan-def.routine code.calls-rows·scan
+    (scan-thm.met 𝓤 H 𝓜 𝓖 𝓡)))
