@@ -1,8 +1,9 @@
 # make run: the bench host on every example, or on DECKS="mine.deck ...". make test: the gate.
-# make vectors, make requirements: write vectors/ and docs/REQUIREMENTS.md anew. make bench: engine against interpreter.
+# make vectors, make requirements, make listing: write vectors/, docs/REQUIREMENTS.md and docs/LISTING.md anew.
+# make bench: engine against interpreter, and a line of the assembler and the lister in short and long texts.
 # make fuzz: the fuzzer for ten minutes, or for FOR=SECONDS.
 # make definitions: each change of code and definition alike, and docs/DEFINITIONS.md anew; it takes an hour. ONLY="WORD ..": some of them.
-.PHONY: run test vectors requirements bench fuzz definitions
+.PHONY: run test vectors requirements listing bench fuzz definitions
 
 run:
 	@host/run $(DECKS)
@@ -16,8 +17,12 @@ vectors:
 requirements:
 	@tests/requirements/write docs/REQUIREMENTS.md
 
+listing:
+	@tests/listing_page/write docs/LISTING.md
+
 bench:
 	@tests/compare/bench
+	@tests/listing/bench
 
 fuzz:
 	@tests/fuzz/run $(or $(FOR),600) $$(date +%s)

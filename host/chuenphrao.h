@@ -1,4 +1,5 @@
-/* The engine's interface: it runs a deck of MCP-1600 microcode, one attempt for each line sample.
+/* The engine's interface: it runs a deck of MCP-1600 microcode, one attempt for each line sample. The assembler
+   and the lister, which turn a typed listing into words and words into a listing, are at the end.
 
    A DECK is at most 65,536 bytes: four sections in this order, each after its count of two bytes.
    All numbers have their low byte first. An unused bit that is set makes its item out of range.
@@ -96,5 +97,41 @@ typedef struct {
      1-4, 9    0 and 0               what it held before     what it held before */
 report run(const uint8_t *deck, size_t deck_len, uint8_t *requests, size_t requests_len,
            uint8_t *state, size_t state_len);
+
+/* A LISTING is a text of lines. Each has an address, a mnemonic, its operands in hexadecimal and its marks,
+   split by spaces, and ends with a newline, which the last may lack: "003 CW 4 2 ODD RR U5". Tabs, carriage
+   returns and comments are none of it. docs/LISTING.md has the format and the mnemonics.
+
+   WORDS are four bytes each as in a deck, without a count. */
+enum {
+    WORDS_MOST = 2048,
+    LISTING_MOST = 81920, /* bytes; no listing that list_words writes is longer */
+};
+
+/* The answers besides 0. */
+enum {
+    LISTING_WORDS = 2,     /* over 2,048 words, a word of 2^22 or more, or a length that is no multiple of 4 */
+    LISTING_CODE = 6,      /* code unlisted; AC is listed here */
+    LISTING_MNEMONIC = 10, /* unknown or absent mnemonic */
+    LISTING_OPERAND = 11,  /* operand or mark missing, extra or out of range */
+    LISTING_ADDRESS = 12,  /* address not hexadecimal, not rising or over 2,047 */
+    LISTING_ROOM = 27,     /* output too short */
+};
+
+typedef struct {
+    uint32_t answer;
+    uint32_t at;     /* with 10-12 the line, counted from 1; with 2 and 6 the word's address; else 0 */
+    uint32_t length; /* with 0 the bytes written, with 27 the bytes needed; else 0 */
+} listing_report;
+
+/* assemble    Writes the words from address 0 to the last line's; those that no line gives are NOP, FF00. The
+               first bad line is refused, with the first of 10, 11 and 12 that is true of it; then comes 27.
+   list_words  Writes a line for each word, in the fixed spelling. Refusals in this order: 2, at the first
+               word of 2^22 or more, or at 2,048 for the other two causes; 6, at the first unlisted word; 27.
+
+   Any answer but 0 leaves the output as found, and so does an output longer than needed past its end. Input
+   and output may not overlap. A buffer of length 0 still needs a pointer that is not null. */
+listing_report assemble(const uint8_t *text, size_t text_len, uint8_t *words, size_t words_len);
+listing_report list_words(const uint8_t *words, size_t words_len, uint8_t *text, size_t text_len);
 
 #endif

@@ -31,7 +31,7 @@ bool find_sections(const uint8_t *deck, size_t length, sections *found)
     cursor at = {deck, length};
     sections deck_has = {0};
     unsigned states = 0;
-    bool whole = pass(&at, WORD_BYTES, &deck_has.words) && pass(&at, ROW_BYTES, &deck_has.rows)
+    bool whole = (deck_has.word = pass(&at, WORD_BYTES, &deck_has.words)) && pass(&at, ROW_BYTES, &deck_has.rows)
         && (deck_has.state = pass(&at, STATE_BYTES, &states))
         && (deck_has.sample = pass(&at, SAMPLE_BYTES, &deck_has.samples))
         && states == 1 && at.left == 0;

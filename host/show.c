@@ -1,4 +1,5 @@
 #include "show.h"
+#include "words.h"
 
 #include <stdio.h>
 #include <string.h>
@@ -75,8 +76,10 @@ static void show_answer(const outcome *ran)
 {
     uint32_t answer = ran->report.answer;
     bool known = answer < sizeof answers / sizeof *answers;
-    if (ran->deck.state)
+    if (ran->deck.state) {
         printf("  deck         words %u, rows %u, samples %u\n", ran->deck.words, ran->deck.rows, ran->deck.samples);
+        show_words(&ran->deck);
+    }
     printf("  answer       %u: %s", answer, known ? answers[answer] : "no answer of the engine's interface");
     if (was_run(ran) && answer != ANSWER_DONE)
         printf(", at attempt %u", ran->report.attempts + 1);

@@ -1,4 +1,4 @@
-/* One input of the fuzzer: a call of the engine. */
+/* One input of the fuzzer: a call of the engine, or of the assembler or the lister. */
 #ifndef CALL_H
 #define CALL_H
 
@@ -22,6 +22,21 @@ unsigned refusal(const call *made);
 
 /* Runs the engine on the call and holds what it leaves to 01. */
 void check(const call *made);
+
+/* Which function an input calls, by the top bits of its first byte; with both set the engine's run is shown too. */
+enum { CALLS_ENGINE, CALLS_ASSEMBLER, CALLS_LISTER };
+
+/* Calls the assembler or the lister on a fuzzer's bytes and holds what it leaves to the paper. */
+void check_listing(const uint8_t *bytes, size_t length);
+
+/* A buffer of this length, the same one each time for the number: the end or the start of it is against a page that
+   cannot be touched. */
+enum { DECK_LENT, REQUESTS_LENT, STATE_LENT, INPUT_LENT, OUTPUT_LENT, BUFFERS };
+uint8_t *lend(unsigned number, bool at_end, size_t length);
+
+/* What a buffer is filled with, by the end that it is against; and whether it still is. */
+extern const uint8_t fills[2];
+bool filled(const uint8_t *from, const uint8_t *to, uint8_t fill);
 
 /* Ends the program, saying what does not hold. */
 void expect(bool holds, const char *what);

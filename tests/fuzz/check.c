@@ -8,9 +8,8 @@
 #include <string.h>
 #include <sys/mman.h>
 
-enum { DECK, REQUESTS, STATE, BUFFERS };
 enum { PAGE = 4096, ROOM = DECK_ROOM };
-static const uint8_t fills[] = {0xC3, 0x3C}; /* no request and no state in range has such bytes only */
+const uint8_t fills[2] = {0xC3, 0x3C}; /* no request and no state in range has such bytes only */
 
 /* What a run left. */
 typedef struct {
@@ -18,8 +17,7 @@ typedef struct {
     uint8_t *requests, *state;
 } left;
 
-/* A buffer of this length, the same one each time for the number, at the end or the start of its room. */
-static uint8_t *lend(unsigned number, bool at_end, size_t length)
+uint8_t *lend(unsigned number, bool at_end, size_t length)
 {
     static uint8_t *rooms[BUFFERS][2];
     uint8_t **room = &rooms[number][at_end];
@@ -53,7 +51,7 @@ static void plant(left *ran)
 #endif
 }
 
-static bool filled(const uint8_t *from, const uint8_t *to, uint8_t fill)
+bool filled(const uint8_t *from, const uint8_t *to, uint8_t fill)
 {
     while (from < to && *from == fill)
         from++;
@@ -62,9 +60,9 @@ static bool filled(const uint8_t *from, const uint8_t *to, uint8_t fill)
 
 static left run_once(const call *made, bool at_end)
 {
-    uint8_t *deck = lend(DECK, at_end, made->deck_len);
-    left ran = {.requests = lend(REQUESTS, at_end, made->requests_len),
-                .state = lend(STATE, at_end, made->state_len)};
+    uint8_t *deck = lend(DECK_LENT, at_end, made->deck_len);
+    left ran = {.requests = lend(REQUESTS_LENT, at_end, made->requests_len),
+                .state = lend(STATE_LENT, at_end, made->state_len)};
     memcpy(deck, made->deck, made->deck_len);
     memset(ran.requests, fills[at_end], made->requests_len);
     memset(ran.state, fills[at_end], made->state_len);

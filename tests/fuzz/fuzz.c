@@ -1,4 +1,5 @@
-/* The fuzzer's entry: each input is a call of the engine, held to 01, and a deck for the bench host. */
+/* The fuzzer's entry: each input is a call of the engine, held to 01, and a deck for the bench host; or a call of the
+   assembler or the lister. */
 #define _GNU_SOURCE
 #include "call.h"
 
@@ -42,6 +43,11 @@ static void bench(const call *made)
 
 int LLVMFuzzerTestOneInput(const uint8_t *bytes, size_t length)
 {
+    unsigned calls = length ? bytes[0] >> 6 : CALLS_ENGINE;
+    if (calls == CALLS_ASSEMBLER || calls == CALLS_LISTER) {
+        check_listing(bytes, length);
+        return 0;
+    }
     call made = shape(bytes, length);
     check(&made);
     bench(&made);

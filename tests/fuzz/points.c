@@ -1,5 +1,6 @@
-/* Which instructions of the engine were reached. It is fuzzed as it was compiled, without a compiler's counters: each
-   of its instructions gets a trap in memory, which is taken away when it is first met. */
+/* Which instructions of the libraries were reached, the engine's and the listings'. They are fuzzed as they were compiled,
+   without a compiler's counters: each of their instructions gets a trap in memory, which is taken away when it is first
+   met. */
 #define _GNU_SOURCE
 #include "call.h"
 
@@ -9,7 +10,8 @@
 #include <sys/mman.h>
 #include <ucontext.h>
 
-enum { MOST = 8192, SPAN = 65536, PAGE = 4096, TRAP = 0xCC };
+enum { MOST = 16384, SPAN = 131072, PAGE = 4096, TRAP = 0xCC };
+enum { ENGINE, LISTINGS, LIBRARIES };
 
 /* The fuzzer looks here after each input. */
 __attribute__((section("__libfuzzer_extra_counters"))) static uint8_t counters[MOST];
@@ -17,7 +19,8 @@ __attribute__((section("__libfuzzer_extra_counters"))) static uint8_t counters[M
 static uint8_t *low;               /* the first point */
 static uint16_t numbers[SPAN];     /* by the distance from there: the point's number, from 1 */
 static uint8_t instructions[MOST]; /* the first byte of each, by number */
-static unsigned all, reached;
+static uint8_t libraries[MOST];    /* and whose it is */
+static unsigned all, reached[LIBRARIES];
 
 static void met(int signal, siginfo_t *information, void *context)
 {
@@ -29,37 +32,40 @@ static void met(int signal, siginfo_t *information, void *context)
     *point = instructions[number];
     *at = (greg_t)point;
     counters[number] = 1;
-    reached++;
+    reached[libraries[number]]++;
 }
 
-static void set(uintptr_t address)
+static void set(uintptr_t address, unsigned library)
 {
     uint8_t *point = (uint8_t *)address;
     low = low ? low : point;
+    expect(library < LIBRARIES, "a point is a library's");
     expect(++all < MOST && point >= low && point - low < SPAN, "points rise, and there is room for them");
     expect(!mprotect((void *)(address & ~(uintptr_t)(PAGE - 1)), PAGE, PROT_READ | PROT_WRITE | PROT_EXEC),
            "code can be written");
     numbers[point - low] = (uint16_t)all;
     instructions[all] = *point;
+    libraries[all] = (uint8_t)library;
     *point = TRAP;
 }
 
 static void tell(void)
 {
-    dprintf(said, "reached %u of %u\n", reached, all);
+    dprintf(said, "reached %u of the engine\nreached %u of the listings\n", reached[ENGINE], reached[LISTINGS]);
 }
 
-/* The environment's POINTS lists the instructions' addresses. */
+/* The environment's POINTS lists the instructions' addresses, each with its library. */
 int LLVMFuzzerInitialize(int *count, char ***words)
 {
     const char *list = getenv("POINTS");
     FILE *file = list ? fopen(list, "r") : NULL;
     unsigned long address;
+    unsigned library;
     (void)count, (void)words;
     if (!file)
         return 0;
-    while (fscanf(file, "%lx", &address) == 1)
-        set(address);
+    while (fscanf(file, "%lx %u", &address, &library) == 2)
+        set(address, library);
     fclose(file);
     atexit(tell);
     return sigaction(SIGTRAP, &(struct sigaction){.sa_sigaction = met, .sa_flags = SA_SIGINFO}, NULL);

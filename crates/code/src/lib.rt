@@ -151,7 +151,7 @@ fn code_in(class: Class, top: u8) -> u8
     }
 }
 
-fn operands_in(class: Class, word: u32) -> Operands
+pub fn operands_in(class: Class, word: u32) -> Operands
     ensures { λ r. ⌜ r ≡ operandsIn class word ⌝ }
 {
     match class {
@@ -242,7 +242,7 @@ fn is_well_formed(f: Fields) -> bool
     is_same(class, own) & (code_in(class, code) == code) & fits(class, operands) & (f.user < 0x10)
 }
 
-fn low_of(operands: Operands) -> u32
+pub fn low_of(operands: Operands) -> u32
     ensures { λ r. ⌜ (r ≡ lowOf operands) × (r < 0x1_0000) ⌝ }
 {
     match operands {

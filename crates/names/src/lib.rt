@@ -4,7 +4,7 @@ ghost use Rattle.names.specs.Mnemonics.{mnemonicOf, allMnemonics};
 
 mod table;
 
-fn names() -> [u32; 256]
+pub fn names() -> [u32; 256]
     ensures { λ r. ⌜ r ≡ allMnemonics ⌝ }
 {
     table::NAMES

@@ -1,13 +1,12 @@
-//! The compiled engine, called through its driver in a process of its own.
+//! The compiled engine, called through its driver.
 
 use crate::call::{Call, Left};
+use crate::driver::{long_number, number, Asked, Driver};
 use interpreter::Report;
-use std::io::{self, BufReader, BufWriter, Read, Write};
-use std::process::{Command, Stdio};
-use std::thread;
+use std::io::{self, Read, Write};
 
-/// The driver: a program and its arguments, an emulator perhaps first.
-pub struct Engine(Vec<String>);
+/// The engine behind its driver.
+pub struct Engine(Driver);
 
 /// An answer of the driver.
 pub struct Answer {
@@ -20,7 +19,7 @@ pub struct Answer {
 impl Engine {
     /// The engine behind this command, which is not empty.
     pub fn new(command: Vec<String>) -> Self {
-        Self(command)
+        Self(Driver::new(command))
     }
 
     /// What each call leaves behind, by the engine and by the interpreter.
@@ -36,79 +35,40 @@ impl Engine {
     /// Runs the calls in one process. When that dies, answers are missing from the call that killed
     /// it on.
     pub fn run(&self, calls: &[Call]) -> io::Result<Vec<Answer>> {
-        let mut child = Command::new(&self.0[0])
-            .args(&self.0[1..])
-            .stdin(Stdio::piped())
-            .stdout(Stdio::piped())
-            .spawn()?;
-        let input = child.stdin.take();
-        let output = child.stdout.take();
-        let mut answers = thread::scope(|scope| {
-            // A pipe that breaks shows as missing answers.
-            scope.spawn(move || input.map(|input| send(calls, input)));
-            output.map_or(Vec::new(), |output| receive(calls, output))
-        });
-        let status = child.wait()?;
-        if !status.success() {
-            eprintln!("driver: {status}");
-            // Nor is the last answer of a driver that ends badly any good.
-            answers.truncate(calls.len().saturating_sub(1));
-        }
-        Ok(answers)
+        self.0.run(calls)
     }
 }
 
-fn send(calls: &[Call], input: impl Write) -> io::Result<()> {
-    let mut input = BufWriter::with_capacity(1 << 16, input);
-    for call in calls {
-        let parts = [&call.deck, &call.requests, &call.state];
+impl Asked for Call {
+    type Answer = Answer;
+
+    fn send(&self, input: &mut impl Write) -> io::Result<()> {
+        let parts = [&self.deck, &self.requests, &self.state];
         for part in parts {
             input.write_all(&(part.len() as u32).to_le_bytes())?;
         }
         for part in parts {
             input.write_all(part)?;
         }
+        Ok(())
     }
-    input.flush()
-}
 
-fn receive(calls: &[Call], output: impl Read) -> Vec<Answer> {
-    let mut output = BufReader::with_capacity(1 << 16, output);
-    let answers = calls
-        .iter()
-        .map_while(|call| answer(call, &mut output).ok());
-    answers.collect()
-}
-
-fn answer(call: &Call, output: &mut impl Read) -> io::Result<Answer> {
-    let [answer, attempts, microcycles, damage] = [
-        number(output)?,
-        number(output)?,
-        number(output)?,
-        number(output)?,
-    ];
-    let mut nanoseconds = [0; 8];
-    output.read_exact(&mut nanoseconds)?;
-    let mut left = Left {
-        report: Report {
-            answer,
-            attempts,
-            microcycles,
-        },
-        damage,
-        requests: vec![0; call.requests.len()],
-        state: vec![0; call.state.len()],
-    };
-    output.read_exact(&mut left.requests)?;
-    output.read_exact(&mut left.state)?;
-    Ok(Answer {
-        left,
-        nanoseconds: u64::from_le_bytes(nanoseconds),
-    })
-}
-
-fn number(output: &mut impl Read) -> io::Result<u32> {
-    let mut bytes = [0; 4];
-    output.read_exact(&mut bytes)?;
-    Ok(u32::from_le_bytes(bytes))
+    fn receive(&self, output: &mut impl Read) -> io::Result<Answer> {
+        let report = Report {
+            answer: number(output)?,
+            attempts: number(output)?,
+            microcycles: number(output)?,
+        };
+        let damage = number(output)?;
+        let nanoseconds = long_number(output)?;
+        let mut left = Left {
+            report,
+            damage,
+            requests: vec![0; self.requests.len()],
+            state: vec![0; self.state.len()],
+        };
+        output.read_exact(&mut left.requests)?;
+        output.read_exact(&mut left.state)?;
+        Ok(Answer { left, nanoseconds })
+    }
 }

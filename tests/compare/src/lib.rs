@@ -8,6 +8,7 @@ pub mod call;
 pub mod deck;
 pub mod describe;
 pub mod difference;
+pub mod driver;
 pub mod engine;
 pub mod fields;
 pub mod flags;

@@ -2,6 +2,7 @@
 
 use crate::choose::Reach;
 use crate::code::{Code, Format};
+use crate::listed::Lines;
 use crate::meaning;
 use crate::vector::Vector;
 use crate::{bytes, expected, readable};
@@ -14,12 +15,12 @@ To replay a vector, hand over the bytes of its `deck` lines; what comes back mus
 its `report`, `requests` and `state` lines. README.md tells more.";
 
 /// The whole text.
-pub fn text(code: &Code, reach: &Reach, vectors: &[Vector]) -> String {
+pub fn text(code: &Code, reach: &Reach, vectors: &[Vector], lines: &Lines) -> String {
     let mut text = head(code, reach, vectors);
     for vector in vectors {
         text += "\n\n";
         text += &format!("vector {}\n# {}\n", vector.draft.name, vector.draft.shows);
-        text += &readable::text(code, &vector.draft.setting);
+        text += &readable::text(code, &vector.draft.setting, lines);
         text += &expected::text(vector);
         text += &bytes::text(vector);
     }

@@ -1,5 +1,6 @@
-//! The vectors of every code: `vectors write DIRECTORY DRIVER...` makes the texts from the compiled
-//! engine's results, `vectors replay DIRECTORY DRIVER...` runs the bytes of texts again.
+//! The vectors of every code: `vectors write DIRECTORY DRIVER... -- LISTER...` makes the texts from
+//! the results of the compiled engine and the lines of the compiled lister, `vectors replay DIRECTORY
+//! DRIVER...` runs the bytes of texts again.
 
 #![forbid(unsafe_code)]
 
@@ -14,6 +15,7 @@ mod draft;
 mod expected;
 mod file;
 mod further;
+mod listed;
 mod meaning;
 mod operands;
 mod readable;
@@ -25,6 +27,7 @@ mod told;
 mod vector;
 mod write;
 
+use compare::driver::Driver;
 use compare::engine::Engine;
 use compare::tally::ended;
 use std::env;
@@ -33,12 +36,18 @@ use std::process::ExitCode;
 
 fn main() -> ExitCode {
     let words: Vec<String> = env::args().skip(1).collect();
-    let tally = match words.as_slice() {
-        [what, directory, driver @ ..] if !driver.is_empty() => {
+    let mut commands = words.split(|word| word == "--");
+    let first = commands.next().unwrap_or_default();
+    let lister = commands.next().unwrap_or_default();
+    let tally = match (first, lister) {
+        ([what, directory, driver @ ..], lister) if !driver.is_empty() => {
             let engine = Engine::new(driver.to_vec());
-            match what.as_str() {
-                "write" => write::all(Path::new(directory), &engine),
-                "replay" => replay::all(Path::new(directory), &engine),
+            match (what.as_str(), lister) {
+                ("write", [_, ..]) => {
+                    let lister = Driver::new(lister.to_vec());
+                    write::all(Path::new(directory), &engine, &lister)
+                }
+                ("replay", []) => replay::all(Path::new(directory), &engine),
                 _ => Err(USAGE.to_string()),
             }
         }
@@ -47,4 +56,5 @@ fn main() -> ExitCode {
     ended("vectors", tally)
 }
 
-const USAGE: &str = "usage: vectors write|replay DIRECTORY DRIVER [ARGUMENT...]";
+const USAGE: &str = "usage: vectors write DIRECTORY DRIVER... -- LISTER...
+       vectors replay DIRECTORY DRIVER...";

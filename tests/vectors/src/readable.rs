@@ -1,19 +1,18 @@
 //! A setting in the language of `examples/make`.
 
 use crate::code::{Code, Format};
+use crate::listed::Lines;
 use crate::row::{Asked, Part, Row, LRA, LTA, LTSR};
 use crate::setting::{Sample, Setting};
-use compare::deck::ELSEWHERE;
-use compare::describe::instruction;
 use compare::fields::{other_fields, register_fields, Field, NONE};
 use compare::flags;
 use compare::lines;
 use interpreter::{place, State};
 
 /// The sections, one line to an item.
-pub fn text(code: &Code, setting: &Setting) -> String {
+pub fn text(code: &Code, setting: &Setting, listed: &Lines) -> String {
     let mut lines = vec!["words".to_string()];
-    lines.extend(words(&setting.words));
+    lines.extend(words(&setting.words, listed));
     if !setting.rows.is_empty() {
         lines.push("rows".to_string());
         lines.extend(setting.rows.iter().map(row));
@@ -30,25 +29,29 @@ fn remarked(content: &str, remark: &str) -> String {
     format!("    {content:<20}# {remark}")
 }
 
-fn words(words: &[u32]) -> Vec<String> {
-    let mut lines = Vec::new();
+/// The lister's line for each word, or the word itself where there is none.
+fn words(words: &[u32], lines: &Lines) -> Vec<String> {
+    let mut text = Vec::new();
     let mut at = 0;
     for run in runs(words) {
         let (word, count) = (run[0], run.len());
-        lines.push(match (word, count) {
-            (ELSEWHERE, 2..) => remarked(
+        match (lines.line(at, word), count) {
+            (Some(_), _) => {
+                let own = (at..at + count).filter_map(|at| lines.line(at, word));
+                text.extend(own.map(|line| format!("    {line}")));
+            }
+            (None, 1) => text.push(remarked(
+                &format!("{word:04X}"),
+                &format!("{at:03X}  unlisted"),
+            )),
+            _ => text.push(remarked(
                 &format!("{word:04X} x {count}"),
                 "unlisted: must not be executed",
-            ),
-            (_, 1) => remarked(
-                &format!("{word:04X}"),
-                &format!("{at:03X}  {}", instruction(word)),
-            ),
-            _ => format!("    {word:04X} x {count}"),
-        });
+            )),
+        }
         at += count;
     }
-    lines
+    text
 }
 
 /// Equal items that follow each other.

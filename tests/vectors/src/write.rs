@@ -2,19 +2,26 @@
 
 use crate::code::{self, Code};
 use crate::draft::Draft;
+use crate::listed::Lines;
 use crate::vector::Vector;
 use crate::{check, choose, file, further};
 use compare::call::{Call, Left};
 use compare::describe::wrong;
+use compare::driver::Driver;
 use compare::engine::Engine;
 use compare::tally::Tally;
 use std::fs;
 use std::path::Path;
 
 /// Writes a file for each code, when every check passes.
-pub fn all(directory: &Path, engine: &Engine) -> Result<Tally, String> {
+pub fn all(directory: &Path, engine: &Engine, lister: &Driver) -> Result<Tally, String> {
     let codes = code::all();
     let drafts: Vec<Vec<Draft>> = codes.iter().map(further::drafts).collect();
+    let words = drafts
+        .iter()
+        .flatten()
+        .map(|draft| draft.setting.words.as_slice());
+    let lines = Lines::of(words, lister)?;
     let calls = drafts.iter().flatten().map(|draft| draft.setting.call());
     let calls: Vec<Call> = calls.collect();
     let answers = engine.run(&calls).map_err(|error| error.to_string())?;
@@ -31,7 +38,7 @@ pub fn all(directory: &Path, engine: &Engine) -> Result<Tally, String> {
             .zip(results.by_ref())
             .map(|(draft, (call, answer))| agreed(&mut tally, code, draft, call, answer.left))
             .collect();
-        texts.push((code, checked(&mut tally, code, &vectors)));
+        texts.push((code, checked(&mut tally, code, &vectors, &lines)));
     }
     if tally.failed == 0 {
         put(directory, &texts)?;
@@ -48,7 +55,7 @@ fn agreed(tally: &mut Tally, code: &Code, draft: Draft, call: &Call, left: Left)
 }
 
 /// The text of a code's vectors, after they are checked.
-fn checked(tally: &mut Tally, code: &Code, vectors: &[Vector]) -> String {
+fn checked(tally: &mut Tally, code: &Code, vectors: &[Vector], lines: &Lines) -> String {
     let reach = choose::reached(code);
     for own in vectors {
         let wrong = check::vector(code, own);
@@ -57,7 +64,7 @@ fn checked(tally: &mut Tally, code: &Code, vectors: &[Vector]) -> String {
     for wrong in check::together(code, vectors, &reach) {
         tally.check(wrong.map(|wrong| format!("{}: {wrong}", code.key)));
     }
-    file::text(code, &reach, vectors)
+    file::text(code, &reach, vectors, lines)
 }
 
 fn put(directory: &Path, texts: &[(&Code, String)]) -> Result<(), String> {

@@ -1,0 +1,4 @@
+pub mod Laws
+pub mod Names
+pub mod Operands
+pub mod Place

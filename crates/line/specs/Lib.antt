@@ -1,0 +1,4 @@
+pub mod Marks
+pub mod Line
+pub mod Kinds
+pub mod Written

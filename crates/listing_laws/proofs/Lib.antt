@@ -1,0 +1,15 @@
+pub mod Spelled
+pub mod Reread
+pub mod Tail
+pub mod There
+pub mod Respelled
+pub mod MarksFixed
+pub mod LineFixed
+pub mod Refused
+pub mod Fixed
+pub mod EachLine
+pub mod Idempotent
+pub mod Told
+pub mod Exact
+pub mod Handed
+pub mod Host

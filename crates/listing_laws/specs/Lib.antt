@@ -1,0 +1,4 @@
+pub mod Fixed
+pub mod Accepted
+pub mod Refused
+pub mod Told

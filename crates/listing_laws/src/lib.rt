@@ -1,0 +1,1 @@
+// The laws of listings: there and back, the fixed spelling, and which line is refused. It has no code.
