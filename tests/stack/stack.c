@@ -1,5 +1,6 @@
-/* How much stack `run` takes. It is called on a stack of its own, painted before, and the deepest byte that it changed
-   tells: stack BOUND. Each kind of deck has to get its answer and take less than BOUND bytes. */
+/* How much stack `run`, `assemble` and `list_words` take. Each is called on a stack of its own, painted before, and the
+   deepest byte that it changed tells: stack BOUND. Each kind of deck, and a listing there and back, has to get its answer
+   and take less than BOUND bytes. */
 #define _DEFAULT_SOURCE
 #include "../../host/chuenphrao.h"
 
@@ -56,17 +57,24 @@ static void make(const kind *of)
     requests_len = (of->samples - of->places_missing) * (size_t)REQUEST_BYTES;
 }
 
+static void run_deck(void)
+{
+    is = run(deck, deck_len, requests, requests_len, state, sizeof state);
+}
+
+static void (*work)(void) = run_deck;
+
 /* From where this function calls, down to the deepest byte that was changed. */
 static void call(void)
 {
     const uint8_t *here = __builtin_frame_address(0), *at = room;
-    is = run(deck, deck_len, requests, requests_len, state, sizeof state);
+    work();
     while (*at == paint)
         at++;
     taken = (size_t)(here - at);
 }
 
-/* The paint can be a byte that `run` writes, so there are two. */
+/* The paint can be a byte that is written, so there are two. */
 static size_t measured(void)
 {
     size_t most = 0;
@@ -105,6 +113,32 @@ static bool codes_fit(size_t bound)
     return most > 0 && most < bound;
 }
 
+static uint8_t microcode[WORDS_MOST * WORD_BYTES], text[LISTING_MOST];
+static size_t text_len;
+static listing_report told;
+
+/* 2,048 words of the codes 80 to AB, with all operands and marks. */
+static void list(void)
+{
+    for (unsigned i = 0; i < WORDS_MOST; i++)
+        memcpy(microcode + i * WORD_BYTES, (uint8_t[WORD_BYTES]){(uint8_t)i, (uint8_t)(0x80 + i % 0x2C), i % 64}, WORD_BYTES);
+    told = list_words(microcode, sizeof microcode, text, sizeof text);
+    text_len = told.length;
+}
+
+static void assemble_again(void)
+{
+    told = assemble(text, text_len, microcode, sizeof microcode);
+}
+
+static bool part_fits(const char *name, void (*part)(void), size_t bound)
+{
+    work = part;
+    size_t most = measured();
+    printf("%-26s answer %u, %zu bytes\n", name, told.answer, most);
+    return told.answer == 0 && most > 0 && most < bound;
+}
+
 static const kind kinds[] = {
     {.name = "no words, rows or samples"},
     {.name = "no rows", .words = 2048, .word = NOP, .samples = 2048},
@@ -128,23 +162,28 @@ static const kind kinds[] = {
     {.name = "deck too long", .answer = 9, .rows = 1, .samples = 16371},
 };
 
+static unsigned passed, failed;
+
+static void hold(bool fine)
+{
+    if (fine)
+        passed++;
+    else
+        failed++;
+}
+
 int main(int count, char **words)
 {
     size_t bound = count == 2 ? strtoul(words[1], NULL, 10) : 0;
-    unsigned passed = 0, failed = 0;
     uint8_t *whole = mmap(NULL, PAGE + ROOM, PROT_NONE, MAP_PRIVATE | MAP_ANONYMOUS, -1, 0);
     room = whole + PAGE;
     if (bound == 0 || whole == MAP_FAILED || mprotect(room, ROOM, PROT_READ | PROT_WRITE))
         return 2;
     for (size_t i = 0; i < sizeof kinds / sizeof *kinds; i++)
-        if (fits(&kinds[i], bound))
-            passed++;
-        else
-            failed++;
-    if (codes_fit(bound))
-        passed++;
-    else
-        failed++;
+        hold(fits(&kinds[i], bound));
+    hold(codes_fit(bound));
+    hold(part_fits("2,048 lines listed", list, bound));
+    hold(part_fits("2,048 lines assembled", assemble_again, bound));
     printf("%u passed, %u failed\n", passed, failed);
     return failed != 0;
 }
