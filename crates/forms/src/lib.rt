@@ -7,6 +7,13 @@ ghost use Rattle.forms.specs.Named.{topNamed, twinned, oddOf};
 
 const BLANK: u32 = 0x2020_2020;
 
+// The marks as names, as `names` has the mnemonics.
+pub const ODD: u32 = 0x4F_44_44_20;
+
+pub const RR: u32 = 0x52_52_20_20;
+
+pub const RNI: u32 = 0x52_4E_49_20;
+
 // The operands of an instruction, as they are typed.
 pub struct Form {
     // How many digits the first has: 3 for 11 bits, 2 for 8, 1 for 4.

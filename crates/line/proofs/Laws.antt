@@ -111,6 +111,27 @@ is-12 false f p a w e = absurd (omega (arith, ap answerIn e))
 is-12 true false p a w e = absurd (omega (arith, ap answerIn e))
 is-12 true true true a w e = absurd (omega (arith, ap answerIn e))
 
+-- a bad line's number is one of these
+pub data Number : ℕ → Type 0 where
+  mnemonic : Number 10
+  operand : Number 11
+  address : Number 12
+
+is-bad : (n f p : Bool) (a w m : ℕ) → byTests n f p a w ≡ Line.Bad m → Number m
+is-bad false f p a w m e = rw (ap answerIn e) at mnemonic
+is-bad true false p a w m e = rw (ap answerIn e) at operand
+is-bad true true false a w m e = rw (ap answerIn e) at address
+is-bad true true true a w m e = let z : _≡_ {A = ℕ} 0 1 = cc in absurd (omega arith)
+
+pub bad-number : (next : ℕ) (ps : List (List ℕ)) (m : ℕ) → lineOf next ps ≡ Line.Bad m → Number m
+bad-number next ps m e =
+    is-bad (ltb (topIn ps) 0x100) (fitting ps) (placed next ps) (addressIn ps) (wordIn ps) m (sym (line-tests next ps) ∙ e)
+
+pub not-zero : {n : ℕ} → Number n → n ≡ 0 → ⊥
+not-zero mnemonic e = omega arith
+not-zero operand e = omega arith
+not-zero address e = omega arith
+
 is-word : (n f p : Bool) (a w x y : ℕ) → byTests n f p a w ≡ Line.Word x y → (n ≡ true) × (f ≡ true) × (p ≡ true) × (a ≡ x) × (w ≡ y)
 is-word true true true a w x y e = (refl, refl, refl, (cc), (cc))
 is-word false f p a w x y e = absurd (omega (arith, ap answerIn e))

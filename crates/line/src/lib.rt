@@ -3,6 +3,9 @@ use choose::bit_of;
 use code::Fields;
 use code::Together;
 use forms::Form;
+use forms::ODD;
+use forms::RNI;
+use forms::RR;
 use pieces::Piece;
 ghost use mathlib.Core.Path.{_≡_};
 ghost use Prim.Native.Nat.{_-_, _≤_};
@@ -11,12 +14,6 @@ ghost use Rattle.pieces.specs.Parts.{piecesOf};
 ghost use Rattle.pieces.specs.Read.{nameOf, valueOf};
 ghost use Rattle.line.specs.Marks.{noMarks, userIn, withUser, withMark, marksFrom};
 ghost use Rattle.line.specs.Line.{tailOf, fitsForm, wordFor, placedOf, lineOf};
-
-const ODD: u32 = 0x4F_44_44_20;
-
-const RR: u32 = 0x52_52_20_20;
-
-const RNI: u32 = 0x52_4E_49_20;
 
 // The marks of a line. `user` is 0x10 where there is no U; `good` is false once a piece is no mark or a mark comes again.
 pub struct Marks {

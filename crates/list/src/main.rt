@@ -8,12 +8,7 @@ fn complain(text: &[u8]) {
 }
 
 fn last_digit(n: u32) {
-    let d = (n % 0x10) as u8;
-    if d < 10 {
-        complain(&[b'0' + d]);
-    } else {
-        complain(&[b'A' + (d - 10)]);
-    }
+    complain(&[spelling::hex_digit(n)]);
 }
 
 fn word(address: u32) {

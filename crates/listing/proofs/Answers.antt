@@ -1,27 +1,24 @@
 -- What the lister tells and leaves, by the tests that lead to each answer.
 use Prim.Native.Nat.{ℕ, _+_, _%_, _<_, _≤_}
 use mathlib.Core.Path.{_≡_, _∙_}
-use mathlib.Core.Bool.{Bool, true, false, _&&_}
+use mathlib.Core.Bool.{true, false, _&&_}
 use mathlib.Core.List.{List, _++_}
 use native.Mathlib.Nat.{zero-add}
 use native.Mathlib.Omega.{arith}
 use borrow.Author.Tests.{lt-ltb, le-ltb}
-use lib.Dec.{eqb, ltb, leb}
+use lib.Dec.{ltb}
 use lib.ListN.{length, drop}
 use lib.Seq.{sets-eq}
 use Rattle.choose.specs.Below.{firsts}
 use Rattle.numbers.specs.Numbers.{wordAt}
 use Rattle.spelling.specs.Laid.{Laid}
 use Rattle.listing.specs.Assembled.{reportOf}
-use Rattle.listing.specs.Listed.{wordCount, firstWith, listingFrom, listedOf, listedInto}
+use Rattle.listing.specs.Listed.{wordCount, firstWith, isWhole, listingFrom, listedOf, listedInto}
 use Rattle.listing.specs.declared.Report.{Report}
 
 -- the report and the text that the lister has to come to
 abbrev pub Ends : List ℕ → List ℕ → Report → List ℕ → Type 0
 Ends s out r after = (r ≡ listedOf s (length out)) × (after ≡ listedInto s out)
-
-abbrev wholly : List ℕ → Bool
-wholly s = eqb (length s % 4) 0 && leb (length s) 8192
 
 -- the first n words, and their lines
 module _ (s out : List ℕ) (n : ℕ) (counted : n ≡ wordCount s) where
@@ -40,11 +37,11 @@ module _ (s out : List ℕ) (n : ℕ) (counted : n ≡ wordCount s) where
     fine : ltb p n ≡ false
     fine = le-ltb _ _ none
 
-    pub other-length : wholly s ≡ false → Ends s out (reportOf 2 2048 0) out
+    pub other-length : isWhole s ≡ false → Ends s out (reportOf 2 2048 0) out
     unfolding listedOf listedInto
     other-length t = (rw (← counted, ← e, fine, t), rw (← counted, ← e, fine, t))
 
-    module _ (whole : wholly s ≡ true) (q : ℕ) (f : q ≡ firstWith 6 0 words) where
+    module _ (whole : isWhole s ≡ true) (q : ℕ) (f : q ≡ firstWith 6 0 words) where
       pub unlisted : q < n → Ends s out (reportOf 6 q 0) out
       unfolding listedOf listedInto
       unlisted h =

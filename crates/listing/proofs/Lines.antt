@@ -1,23 +1,18 @@
 -- What the lines of a text are assembled to: one line more; and of good lines, how many words they give. Assumes nothing.
 use Prim.Native.Nat.{ℕ, _+_, _*_, _-_, _≤_, _<_}
 use mathlib.Core.Path.{_≡_, refl, _∙_}
-use mathlib.Core.Bool.{Bool, true, false, _&&_}
+use mathlib.Core.Bool.{_&&_}
 use mathlib.Core.List.{List, [], _∷_, _++_}
 use native.Mathlib.Nat.{add-zero, zero-add}
 use native.Mathlib.Omega.{arith}
 use borrow.Author.Tests.{eq-eqb, ne-eqb, lt-ltb, le-ltb}
-use lib.Dec.{ltb, leb}
 use lib.ListN.{length, take, drop, replicate, length-append, length-replicate, drop-of-length-le}
 use lib.Seq.{sets, sets-eq}
-use Rattle.choose.specs.Ranged.{pick}
-use Rattle.code.specs.declared.Together.{Together}
-use Rattle.forms.specs.Named.{topNamed}
-use Rattle.line.specs.Line.{tailOf, wordFor, lineOf, placedOf}
+use Rattle.line.specs.Line.{lineOf}
 use Rattle.line.specs.declared.Line.{Line}
-use Rattle.line.proofs.Laws.{taken}
+use Rattle.line.proofs.Laws.{bad-number, not-zero, taken}
 use Rattle.pieces.specs.Counted.{lengthTo}
-use Rattle.pieces.specs.Parts.{partsOf, linesOf, piecesOf, pieceOf}
-use Rattle.pieces.specs.Read.{nameOf, valueOf}
+use Rattle.pieces.specs.Parts.{partsOf, linesOf, piecesOf}
 use Rattle.pieces.proofs.Laws.{parts-step}
 use Rattle.listing.specs.Assembled.{reportOf, judged, bytesOf, wordsFrom, refusalFrom, assembledOf, assembledInto}
 use Rattle.listing.specs.declared.Report.{Report}
@@ -57,38 +52,6 @@ module _ (text : List ℕ) (at : ℕ) (h : length text ≤ at) where
   pub no-refusal : (number next : ℕ) → refusalFrom number next (linesOf (drop at text)) ≡ reportOf 0 0 (4 * next)
   unfolding refusalFrom partsOf
   no-refusal number next = rw (drop-of-length-le text h)
-
--- ---- a bad line's number is 10, 11 or 12
-pub data Number : ℕ → Type 0 where
-  mnemonic : Number 10
-  operand : Number 11
-  address : Number 12
-
-pub bad-number : (next : ℕ) (ps : List (List ℕ)) (n : ℕ) → lineOf next ps ≡ Line.Bad n → Number n
-unfolding lineOf placedOf
-bad-number next ps n e = named (ltb (topNamed (nameOf (pieceOf ps 1))) 0x100) e
-  where
-    is : {m : ℕ} → Number m → Line.Bad m ≡ Line.Bad n → Number n
-    is {m} x q = let r : m ≡ n = cc in rw r at x
-
-    placed : (t : Bool) (a w : ℕ) → pick t (Line.Word a w) (Line.Bad 12) ≡ Line.Bad n → Number n
-    placed true a w q = let z : _≡_ {A = ℕ} 0 1 = cc in absurd (omega arith)
-    placed false a w q = is address q
-
-    worded : (t : Together) → placedOf next (valueOf (pieceOf ps 0)) t ≡ Line.Bad n → Number n
-    worded Together.Malformed q = is operand q
-    worded (Together.Word w) q = placed (ltb (valueOf (pieceOf ps 0)) 0x800 && leb next (valueOf (pieceOf ps 0))) (valueOf (pieceOf ps 0)) w q
-
-    named : (t : Bool)
-        → pick t (placedOf next (valueOf (pieceOf ps 0)) (wordFor (topNamed (nameOf (pieceOf ps 1))) (tailOf (drop 2 ps)))) (Line.Bad 10) ≡ Line.Bad n
-        → Number n
-    named true q = worded (wordFor (topNamed (nameOf (pieceOf ps 1))) (tailOf (drop 2 ps))) q
-    named false q = is mnemonic q
-
-pub not-zero : {n : ℕ} → Number n → n ≡ 0 → ⊥
-not-zero mnemonic e = omega arith
-not-zero operand e = omega arith
-not-zero address e = omega arith
 
 -- ---- good lines from the address `next` on: where their words end, and the length that is told
 pub record Counted (line next : ℕ) (ls : List (List ℕ)) : Type 0 where

@@ -1,7 +1,7 @@
 -- The listing of words that are handed in as bytes: 2, "over 2,048 words, a word of 2^22 or more, or a length that is no multiple of 4; then 6 for the
 -- first unlisted word (CAD is listed); then 27".
 use Prim.Native.Nat.{ℕ, suc, _/_, _%_}
-use mathlib.Core.Bool.{_&&_}
+use mathlib.Core.Bool.{Bool, _&&_}
 use mathlib.Core.List.{List, [], _∷_, _++_, map}
 use lib.Dec.{eqb, ltb, leb}
 use lib.ListN.{length}
@@ -43,12 +43,15 @@ listingFrom address (w ∷ ws) = wordLine address w ++ listingFrom (suc address)
 abbrev pub textOf : List ℕ → List ℕ
 textOf s = listingFrom 0 (wordsIn s)
 
+abbrev pub isWhole : List ℕ → Bool
+isWhole s = eqb (length s % 4) 0 && leb (length s) 8192
+
 -- "of 2 the first whole word out of range among the first 2,048, else 2,048, for a length that is no multiple of 4 too"
 unfoldable pub listedOf : List ℕ → ℕ → Report
 listedOf s room =
     pick (ltb (firstWith 2 0 (wordsIn s)) (wordCount s))
     (reportOf 2 (firstWith 2 0 (wordsIn s)) 0)
-    (pick (eqb (length s % 4) 0 && leb (length s) 8192)
+    (pick (isWhole s)
     (pick (ltb (firstWith 6 0 (wordsIn s)) (wordCount s))
     (reportOf 6 (firstWith 6 0 (wordsIn s)) 0)
     (roomed room (reportOf 0 0 (length (textOf s)))))

@@ -6,21 +6,20 @@ use mathlib.Core.List.{List, [], _∷_}
 use mathlib.Core.Logic.{_↔_}
 use native.Mathlib.Nat.{add-zero}
 use native.Mathlib.Omega.{arith}
-use borrow.Author.Tests.{eqb-true, leb-true, eq-eqb, ne-eqb, le-leb, lt-ltb, le-ltb}
-use lib.Dec.{eqb, leb}
+use borrow.Author.Tests.{eq-eqb, ne-eqb, le-leb, lt-ltb, le-ltb}
 use lib.ListN.{length}
-use Rattle.choose.proofs.Tests.{both-true}
 use Rattle.forms.specs.Named.{placeFrom}
+use Rattle.line.proofs.Laws.{Number, mnemonic, operand, address, not-zero}
 use Rattle.listing.specs.Assembled.{reportOf, refusalFrom, bytesOf, wordsFrom, assembledOf, assembledInto}
-use Rattle.listing.specs.Listed.{wordCount, textOf, listedOf, listedInto}
+use Rattle.listing.specs.Listed.{wordCount, isWhole, textOf, listedOf, listedInto}
 use Rattle.listing.specs.declared.Report.{Report}
-use Rattle.listing.proofs.Lines.{Number, mnemonic, operand, address, not-zero, bytes-told}
+use Rattle.listing.proofs.Lines.{bytes-told}
 use Rattle.pieces.specs.Parts.{linesOf}
 use Rattle.pieces.proofs.Laws.{cases}
 use Rattle.listing_laws.specs.Refused.{AllGood}
 use Rattle.listing_laws.specs.Told.{assembledBytes, Assembles, None, FirstAt, answersIn, Whole, Lists}
 use Rattle.listing_laws.proofs.Refused.{Told, good, bad, told-from, first-bad, all-good, bad-numbers}
-use Rattle.listing_laws.proofs.Told.{assembles, lists, answers-length, all}
+use Rattle.listing_laws.proofs.Told.{assembles, lists, answers-length, wholly, all}
 
 -- ---- the assembler
 
@@ -87,18 +86,15 @@ module _ (s out : List ℕ) where
       (omega arith, omega (arith, answers-length s out))
 
 -- the test of the length
-other-test : (s : List ℕ) → (Whole s → ⊥) → eqb (length s % 4) 0 && leb (length s) 8192 ≡ false
-other-test s other =
-    cases (eqb (length s % 4) 0 && leb (length s) 8192)
-    (λ e. let (a, b) = both-true _ _ e in absurd (other (eqb-true _ _ a, leb-true _ _ b)))
-    (λ e. e)
+other-test : (s out : List ℕ) → (Whole s → ⊥) → isWhole s ≡ false
+other-test s out other = cases (isWhole s) (λ e. absurd (other (wholly s out e))) (λ e. e)
 
 pub lists-only : {s out o : List ℕ} {r : Report} → Lists s out r o → (r ≡ listedOf s (length out)) × (o ≡ listedInto s out)
 unfolding listedOf listedInto
 lists-only {s} {out} (Lists.over j two) =
     let (there, within) = here s out 2 j two in
     rw (there, lt-ltb j (wordCount s) within) (refl, refl)
-lists-only {s} {out} (Lists.other-length none other) = rw (past s out 2 none, all s out, other-test s other) (refl, refl)
+lists-only {s} {out} (Lists.other-length none other) = rw (past s out 2 none, all s out, other-test s out other) (refl, refl)
 lists-only {s} {out} (Lists.unlisted none whole j six) =
     let (there, within) = here s out 6 j six in
     rw (past s out 2 none, all s out, eq-eqb _ _ (whole .0), le-leb _ _ (whole .1), there, lt-ltb j (wordCount s) within) (refl, refl)

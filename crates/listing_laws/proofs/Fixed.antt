@@ -21,7 +21,7 @@ use Rattle.forms.specs.Named.{twinned, oddOf}
 use Rattle.listing.specs.Assembled.{refusalFrom, wordsFrom}
 use Rattle.listing.specs.Listed.{wordLine, listingFrom}
 use Rattle.listing.specs.declared.Report.{Report}
-use Rattle.listing.proofs.Lines.{not-zero, lines-counted}
+use Rattle.listing.proofs.Lines.{lines-counted}
 use Rattle.names.specs.Mnemonics.{mnemonicOf, lettersFrom}
 use Rattle.numbers.specs.Numbers.{Bytes}
 use Rattle.pieces.specs.Parts.{ahead, partsOf, linesOf, filled, piecesOf}
@@ -33,7 +33,7 @@ use Rattle.listing_laws.specs.Fixed.{lineFixed, gapFixed, fixedFrom, fix
 use Rattle.listing_laws.proofs.MarksFixed.{Plain}
 use Rattle.listing_laws.proofs.LineFixed.{comes-apart, line-respelled}
 use Rattle.listing_laws.proofs.Refused.{Told, good, bad, told-from, bad-numbers}
-use Rattle.line.proofs.Laws.{taken}
+use Rattle.line.proofs.Laws.{not-zero, taken}
 
 -- ---- the bytes of a text's lines, and of a line's pieces
 abbrev AllBytes : List (List ℕ) → Type 0

@@ -8,12 +8,12 @@ use lib.ListN.{length, take, drop}
 use lib.Seq.{take-append-seam}
 use Rattle.code.specs.Word.{apartOf, numberOf}
 use Rattle.code.specs.declared.Apart.{Apart}
+use Rattle.line.proofs.Laws.{not-zero}
 use Rattle.numbers.specs.Numbers.{Bytes}
 use Rattle.listing.proofs.Laws.{bytes-length}
 use Rattle.listing.specs.Assembled.{reportOf, assembledOf, assembledInto}
 use Rattle.listing.specs.Listed.{wordsIn, textOf, listedOf, listedInto}
 use Rattle.listing.specs.declared.Report.{Report}
-use Rattle.listing.proofs.Lines.{not-zero}
 use Rattle.pieces.specs.Parts.{linesOf}
 use Rattle.listing_laws.specs.Accepted.{Accepted, wordsOf, Listed}
 use Rattle.listing_laws.specs.Fixed.{fixedOf}

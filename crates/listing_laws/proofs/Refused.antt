@@ -6,9 +6,9 @@ use native.Mathlib.Nat.{add-zero}
 use native.Mathlib.Omega.{arith}
 use Rattle.line.specs.Line.{lineOf}
 use Rattle.line.specs.declared.Line.{Line}
+use Rattle.line.proofs.Laws.{Number, bad-number}
 use Rattle.listing.specs.Assembled.{reportOf, judged, refusalFrom}
 use Rattle.listing.specs.declared.Report.{Report}
-use Rattle.listing.proofs.Lines.{Number, bad-number}
 use Rattle.pieces.specs.Parts.{piecesOf}
 use Rattle.listing_laws.specs.Refused.{AllGood, FirstBad}
 

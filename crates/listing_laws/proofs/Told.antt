@@ -3,21 +3,22 @@ use Prim.Native.Nat.{ℕ, zero, suc, _+_, _%_, _<_}
 use mathlib.Core.Path.{_≡_, refl, ap, _∙_}
 use mathlib.Core.Bool.{Bool, true, false, _&&_}
 use mathlib.Core.List.{List, [], _∷_}
-use native.Mathlib.Nat.{add-zero}
+use native.Mathlib.Nat.{add-zero, zero-add}
 use native.Mathlib.Omega.{arith}
 use borrow.Author.Tests.{ltb-true, ltb-false, leb-true, eqb-true, eqb-false, eq-eqb, le-leb, lt-ltb, le-ltb}
-use lib.Dec.{eqb, ltb, leb}
+use lib.Dec.{eqb, ltb}
 use lib.ListN.{length, length-map}
 use Rattle.choose.specs.Ranged.{pick}
 use Rattle.choose.proofs.Tests.{both-true}
+use Rattle.line.proofs.Laws.{Number, mnemonic, operand, address}
 use Rattle.numbers.specs.Numbers.{wordAt}
 use Rattle.code.specs.Word.{apartOf, numberOf}
 use Rattle.forms.specs.Named.{placeFrom}
 use Rattle.listing.proofs.Laws.{length-firsts}
 use Rattle.listing.specs.Assembled.{reportOf, roomed, writtenIf, refusalFrom, assembledOf, assembledInto}
-use Rattle.listing.specs.Listed.{wordCount, wordsIn, textOf, listedOf, listedInto}
+use Rattle.listing.specs.Listed.{wordCount, wordsIn, isWhole, textOf, listedOf, listedInto}
 use Rattle.listing.specs.declared.Report.{Report}
-use Rattle.listing.proofs.Lines.{Number, mnemonic, operand, address, bytes-told}
+use Rattle.listing.proofs.Lines.{bytes-told}
 use Rattle.pieces.specs.Parts.{linesOf}
 use Rattle.listing_laws.specs.Refused.{AllGood, FirstBad}
 use Rattle.listing_laws.specs.Told.{assembledBytes, Assembles, None, FirstAt, answersIn, Whole, Lists}
@@ -59,15 +60,10 @@ module _ (s out : List ℕ) where
       (pick (ltb q (wordCount s)) (reportOf 6 q 0) (roomed (length out) (reportOf 0 0 (length (textOf s)))))
       (reportOf 2 2048 0))
 
-  whole : Bool
-  whole = eqb (length s % 4) 0 && leb (length s) 8192
-
-  wholly : whole ≡ true → Whole s
-  unfolding whole
+  pub wholly : isWhole s ≡ true → Whole s
   wholly e = let (a, b) = both-true _ _ e in (eqb-true _ _ a, leb-true _ _ b)
 
-  not-wholly : whole ≡ false → Whole s → ⊥
-  unfolding whole
+  not-wholly : isWhole s ≡ false → Whole s → ⊥
   not-wholly e (a, b) =
       let t : true ≡ false = rw (eq-eqb _ _ a, le-leb _ _ b) at e in
       let z : _≡_ {A = ℕ} 0 1 = cc in
@@ -78,35 +74,31 @@ module _ (s out : List ℕ) where
   room a b c true e = Lists.short a b c (ltb-true _ _ e)
   room a b c false e = Lists.done a b c (ltb-false _ _ e)
 
-  -- 0 + n, as the places are counted
-  from-0 : (n : ℕ) → 0 + n ≡ n
-  from-0 n = omega arith
-
   pub all : ltb (wordCount s) (wordCount s) ≡ false
   all = le-ltb (wordCount s) (wordCount s) (omega arith)
 
-  by-whole : None 2 (answersIn s) → (t : Bool) → whole ≡ t → {q : ℕ} → Place 6 0 (answersIn s) q
+  by-whole : None 2 (answersIn s) → (t : Bool) → isWhole s ≡ t → {q : ℕ} → Place 6 0 (answersIn s) q
       → Lists s out (byPlaces (wordCount s) t q) (writtenIf (byPlaces (wordCount s) t q) (textOf s) out)
   unfolding byPlaces
   by-whole none false e q = rw (all) (Lists.other-length none (not-wholly e))
   by-whole none true e (nowhere six) =
-      rw (from-0, answers-length, all) (room none (wholly e) six (ltb (length out) (length (textOf s))) refl)
+      rw (zero-add, answers-length, all) (room none (wholly e) six (ltb (length out) (length (textOf s))) refl)
   by-whole none true e (at j l six) =
       let there : ltb j (wordCount s) ≡ true = lt-ltb j (wordCount s) (omega (arith, answers-length)) in
-      rw (all, from-0, there) (Lists.unlisted none (wholly e) j six)
+      rw (all, zero-add, there) (Lists.unlisted none (wholly e) j six)
 
   over-at : (j q : ℕ) → FirstAt 2 (answersIn s) j → j < wordCount s
-      → Lists s out (byPlaces j whole q) (writtenIf (byPlaces j whole q) (textOf s) out)
+      → Lists s out (byPlaces j (isWhole s) q) (writtenIf (byPlaces j (isWhole s) q) (textOf s) out)
   unfolding byPlaces
   over-at j q two h = rw (lt-ltb j (wordCount s) h) (Lists.over j two)
 
   by-over : {p q : ℕ} → Place 2 0 (answersIn s) p → Place 6 0 (answersIn s) q
-      → Lists s out (byPlaces p whole q) (writtenIf (byPlaces p whole q) (textOf s) out)
-  by-over (nowhere none) q = rw (from-0, answers-length) (by-whole none whole refl q)
-  by-over {p} {q} (at j l two) six = rw (from-0) (over-at j q two (omega (arith, answers-length)))
+      → Lists s out (byPlaces p (isWhole s) q) (writtenIf (byPlaces p (isWhole s) q) (textOf s) out)
+  by-over (nowhere none) q = rw (zero-add, answers-length) (by-whole none (isWhole s) refl q)
+  by-over {p} {q} (at j l two) six = rw (zero-add) (over-at j q two (omega (arith, answers-length)))
 
   pub lists : Lists s out (listedOf s (length out)) (listedInto s out)
-  unfolding listedOf listedInto byPlaces whole
+  unfolding listedOf listedInto byPlaces
   lists = by-over (place 2 0 (answersIn s)) (place 6 0 (answersIn s))
 
 module _ (text out : List ℕ) where

@@ -11,12 +11,7 @@ fn say(text: &[u8]) {
 }
 
 fn last_digit(n: u8) {
-    let d = n % 0x10;
-    if d < 10 {
-        say(&[b'0' + d]);
-    } else {
-        say(&[b'A' + (d - 10)]);
-    }
+    say(&[spelling::hex_digit(n as u32)]);
 }
 
 fn hex(top: u8) {

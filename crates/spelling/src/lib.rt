@@ -1,17 +1,14 @@
 // The line of a listed word, in the fixed spelling.
 use code::Fields;
 use forms::Form;
+use forms::ODD;
+use forms::RNI;
+use forms::RR;
 ghost use mathlib.Core.Path.{_≡_};
 ghost use mathlib.Core.List.{[], _∷_};
 ghost use Prim.Native.Nat.{_+_, _*_, _≤_};
 ghost use Rattle.spelling.specs.Laid.{Laid};
 ghost use Rattle.spelling.specs.Spelling.{hexDigit, digitIf, digitsOf, letterIf, lettersOf, operandOf, operandsOf, markOf, userName, marksOf, spelledOf};
-
-const ODD: u32 = 0x4F_44_44_20;
-
-const RR: u32 = 0x52_52_20_20;
-
-const RNI: u32 = 0x52_4E_49_20;
 
 fn put(line: &mut [u8; 40], at: usize, b: u8) -> usize
     requires { ⌜ at + 1 ≤ 40 ⌝ }
@@ -21,7 +18,8 @@ fn put(line: &mut [u8; 40], at: usize, b: u8) -> usize
     at + 1
 }
 
-fn hex_digit(d: u32) -> u8
+// The last digit of a number.
+pub fn hex_digit(d: u32) -> u8
     ensures { λ r. ⌜ r ≡ hexDigit d ⌝ }
 {
     let d = (d % 0x10) as u8;
