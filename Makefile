@@ -1,9 +1,10 @@
 # make run: the bench host on every example, or on DECKS="mine.deck ...". make test: the gate.
 # make vectors, make requirements, make listing: write vectors/, docs/REQUIREMENTS.md and docs/LISTING.md anew.
 # make bench: engine against interpreter, and a line of the assembler and the lister in short and long texts.
+# make soak: decks over and over for a night, or DECKS="mine.deck .." HOURS=8 or RUNS=COUNT, JOBS=COUNT, LOG=FILE. docs/SOAK.md says more.
 # make fuzz: the fuzzer for ten minutes, or for FOR=SECONDS.
 # make definitions: each change of code and definition alike, and docs/DEFINITIONS.md anew; it takes an hour. ONLY="WORD ..": some of them.
-.PHONY: run test vectors requirements listing bench fuzz definitions
+.PHONY: run test vectors requirements listing bench soak fuzz definitions
 
 run:
 	@host/run $(DECKS)
@@ -23,6 +24,9 @@ listing:
 bench:
 	@tests/compare/bench
 	@tests/listing/bench
+
+soak:
+	@tests/compare/soak $(DECKS)
 
 fuzz:
 	@tests/fuzz/run $(or $(FOR),600) $$(date +%s)

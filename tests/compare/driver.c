@@ -1,6 +1,6 @@
-/* The engine's bench host for tests. A call is three lengths (deck, request buffer, state buffer), then the three as
-   they are before. Its answer is the report, the damage (4 bytes), the nanoseconds (8 bytes), then both buffers as they
-   are after. */
+/* The engine's bench host for tests: driver [TIMES]. A call is three lengths (deck, request buffer, state buffer), then
+   the three as they are before. Its answer is the report, the damage (4 bytes), the nanoseconds (8 bytes), then both
+   buffers as they are after. With TIMES each call is run so often, and the nanoseconds are those of all. */
 #include "../../host/chuenphrao.h"
 #include "server.h"
 
@@ -9,6 +9,8 @@
 
 /* What run may not touch. */
 enum { AROUND_DECK = 1, AROUND_REQUESTS = 2, AROUND_STATE = 4, DECK = 8 };
+
+static long times = 1;
 
 static void answer(const uint32_t lengths[3])
 {
@@ -19,8 +21,10 @@ static void answer(const uint32_t lengths[3])
     get(state.bytes, state.len);
     memcpy(copy.bytes, deck.bytes, deck.len);
 
+    report is = {0};
     uint64_t begun = nanoseconds();
-    report is = run(deck.bytes, deck.len, requests.bytes, requests.len, state.bytes, state.len);
+    for (long i = 0; i < times; i++)
+        is = run(deck.bytes, deck.len, requests.bytes, requests.len, state.bytes, state.len);
     uint64_t taken = nanoseconds() - begun;
 
     uint32_t damage = (intact(deck) ? 0 : AROUND_DECK) | (intact(requests) ? 0 : AROUND_REQUESTS)
@@ -36,7 +40,9 @@ static void answer(const uint32_t lengths[3])
     free(copy.block);
 }
 
-int main(void)
+int main(int count, char **words)
 {
+    if (count > 1)
+        times = atol(words[1]);
     return serve(answer);
 }

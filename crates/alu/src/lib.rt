@@ -148,7 +148,7 @@ pub fn high_first(kind: Kind) -> bool
 }
 
 // The flags after a last cycle: the status always, the conditions where the code is odd.
-fn after(f: Flags, last: Cycle, zero: bool, odd: bool) -> Flags
+pub fn after(f: Flags, last: Cycle, zero: bool, odd: bool) -> Flags
     ensures { λ r. ⌜ r ≡ afterOf f last zero odd ⌝ }
 {
     let negative = 128 <= last.result;

@@ -1,2 +1,3 @@
 pub mod Effect
 pub mod Attempt
+pub mod Lent

@@ -1,20 +1,25 @@
 // One attempt: from the sample to what it leaves.
 use alu::Flags;
 use code::Apart;
+use code::CodeRow;
 use code::Fields;
 use code::Operands;
 use control::Way;
 use rows::Outputs;
-use rows::Row;
+use rows::Packed;
 use state::Address;
 use state::Bus;
 use state::Core;
 use state::Latches;
 use state::Sample;
 ghost use mathlib.Core.Path.{_≡_};
+ghost use Prim.Native.Nat.{_≤_};
 ghost use lib.ListN.{take};
-ghost use Rattle.attempt.specs.Effect.{jumpedOf, literalEffect, registerEffect, effectOf};
-ghost use Rattle.attempt.specs.Attempt.{outcomeOf, resetOf, modifiedOf, executedOf, checkedOf, fetchedOf, outputsOf, attemptOf};
+ghost use Rattle.attempt.specs.Effect.{jumpedOf, literalEffect, registerEffect};
+ghost use Rattle.attempt.specs.Attempt.{outcomeOf, resetOf, modifiedOf};
+ghost use Rattle.attempt.specs.Lent.{doneBy, twoBy, checkedTwoBy, checkedBy, fetchedBy, attemptBy};
+ghost use Rattle.control.specs.Next.{inputsOf};
+ghost use Rattle.rows.specs.Packing.{scanIn};
 ghost use Rattle.state.specs.File.{leaves};
 
 // What an executed instruction does, but for the next address.
@@ -66,18 +71,57 @@ fn literal(file: &mut [u8; 26], core: Core, code: u8, value: u8, reg: u8) -> Eff
     }
 }
 
-fn register(file: &mut [u8; 26], core: Core, code: u8, b: u8, a: u8, sample: Sample) -> Effect
+// 70-77 leave the bus and make no request.
+fn codes_70_to_77(file: &mut [u8; 26], core: Core, code: u8, b: u8, a: u8, sample: Sample) -> Effect
+    requires { ⌜ code ≤ 0x7F ⌝ }
     ensures { λ r. ⌜ leaves (now (file .exit)) r ≡ registerEffect (now (file .entry)) core code b a sample ⌝ }
 {
     let l = core.latches;
-    let held = core.bus;
+    let before = core.flags;
+    let bus = core.bus;
     let ra = state::register(file, l.g, a);
-    let rb = state::register(file, l.g, b);
-    let value = numbers::pair(ra, rb);
-    let bus = control::bus_after(held, code, b, value);
-    let latches = control::latches_after(l, code, b, ra, value, sample);
-    let request = control::request(code, value, sample.dal);
-    let flags = execute::registers(file, core, sample.dal, code, b, a);
+    let latches = control::latches_after_70_to_77(l, code, b, ra);
+    let flags = execute::codes_70_to_77(file, l.g, before, code, b, a);
+    Effect {
+        flags,
+        bus,
+        latches,
+        way: Way::Onward,
+        request: 0,
+    }
+}
+
+// 80-DF leave the bus and the latches.
+fn operation(file: &mut [u8; 26], core: Core, code: u8, b: u8, a: u8, sample: Sample) -> Effect
+    requires { ⌜ (0x80 ≤ code) × (code ≤ 0xDF) ⌝ }
+    ensures { λ r. ⌜ leaves (now (file .exit)) r ≡ registerEffect (now (file .entry)) core code b a sample ⌝ }
+{
+    let l = core.latches;
+    let before = core.flags;
+    let bus = core.bus;
+    let latches = control::used(l);
+    let flags = execute::conditioned(file, l.g, before, l.ics, code, b, a);
+    Effect {
+        flags,
+        bus,
+        latches,
+        way: Way::Onward,
+        request: 0,
+    }
+}
+
+// E0-E7 take nothing from the registers.
+fn input(file: &mut [u8; 26], core: Core, code: u8, b: u8, a: u8, sample: Sample) -> Effect
+    requires { ⌜ (0xE0 ≤ code) × (code ≤ 0xE7) ⌝ }
+    ensures { λ r. ⌜ leaves (now (file .exit)) r ≡ registerEffect (now (file .entry)) core code b a sample ⌝ }
+{
+    let l = core.latches;
+    let before = core.flags;
+    let held = core.bus;
+    let bus = control::bus_after(held, code, b, 0);
+    let latches = control::latches_after_input(l, code, b, sample);
+    let request = control::request(code, 0, sample.dal);
+    let flags = execute::input(file, l.g, before, code, sample.dal, held.m, b, a);
     Effect {
         flags,
         bus,
@@ -87,19 +131,47 @@ fn register(file: &mut [u8; 26], core: Core, code: u8, b: u8, a: u8, sample: Sam
     }
 }
 
-fn effect_of(
-    file: &mut [u8; 26],
-    core: Core,
-    code: u8,
-    operands: Operands,
-    sample: Sample,
-) -> Effect
-    ensures { λ r. ⌜ leaves (now (file .exit)) r ≡ effectOf (now (file .entry)) core code operands sample ⌝ }
+// E8-EF: MI and LTR leave the bus.
+fn load(file: &[u8; 26], core: Core, code: u8, b: u8, a: u8, sample: Sample) -> Effect
+    requires { ⌜ (0xE8 ≤ code) × (code ≤ 0xEF) ⌝ }
+    ensures { λ r. ⌜ leaves (now (file .entry)) r ≡ registerEffect (now (file .entry)) core code b a sample ⌝ }
 {
-    match operands {
-        Operands::Jump(n) => jumped(core, code, n),
-        Operands::Literal { value, reg } => literal(file, core, code, value, reg),
-        Operands::Two { b, a } => register(file, core, code, b, a, sample),
+    let l = core.latches;
+    let flags = core.flags;
+    let bus = core.bus;
+    let ra = state::register(file, l.g, a);
+    let rb = state::register(file, l.g, b);
+    let latches = control::latches_after_load(l, code, numbers::pair(ra, rb));
+    Effect {
+        flags,
+        bus,
+        latches,
+        way: Way::Onward,
+        request: 0,
+    }
+}
+
+// F0-FF: reads and writes leave the latches.
+fn access(file: &mut [u8; 26], core: Core, code: u8, b: u8, a: u8, sample: Sample) -> Effect
+    requires { ⌜ 0xF0 ≤ code ⌝ }
+    ensures { λ r. ⌜ leaves (now (file .exit)) r ≡ registerEffect (now (file .entry)) core code b a sample ⌝ }
+{
+    let l = core.latches;
+    let before = core.flags;
+    let held = core.bus;
+    let ra = state::register(file, l.g, a);
+    let rb = state::register(file, l.g, b);
+    let value = numbers::pair(ra, rb);
+    let bus = control::bus_after(held, code, b, value);
+    let latches = control::used(l);
+    let request = control::request(code, value, sample.dal);
+    let flags = execute::access(file, l.g, before, code, b, a);
+    Effect {
+        flags,
+        bus,
+        latches,
+        way: Way::Onward,
+        request,
     }
 }
 
@@ -114,15 +186,13 @@ fn outcome_of(core: Core, request: u32, cycles: u8, refusal: u8) -> Outcome
     }
 }
 
-fn executed(file: &mut [u8; 26], core: Core, fields: Fields, sample: Sample, o: Outputs) -> Outcome
-    ensures { λ r. ⌜ leaves (now (file .exit)) r ≡ executedOf (now (file .entry)) core fields sample o ⌝ }
+// An executed word: its effect, the next address, and the cycles that its row gives.
+fn done(row: CodeRow, core: Core, fields: Fields, e: Effect, o: Outputs) -> Outcome
+    ensures { λ r. ⌜ r ≡ doneBy row core fields e o ⌝ }
 {
-    let operands = fields.operands;
-    let e = effect_of(file, core, fields.code, operands, sample);
     let way = e.way;
     let before = core.address;
     let address = control::address_after(before, way, fields.code, fields.load_rr, o);
-    let cycles = checks::cycles(fields.code);
     let flags = e.flags;
     let bus = e.bus;
     let latches = e.latches;
@@ -132,22 +202,110 @@ fn executed(file: &mut [u8; 26], core: Core, fields: Fields, sample: Sample, o: 
         bus,
         latches,
     };
-    outcome_of(after, e.request, cycles, 0)
+    outcome_of(after, e.request, row.cycles, 0)
 }
 
-// A listed word: refusals, then waiting, then execution.
-fn checked(file: &mut [u8; 26], core: Core, fields: Fields, sample: Sample, o: Outputs) -> Outcome
-    ensures { λ r. ⌜ leaves (now (file .exit)) r ≡ checkedOf (now (file .entry)) core fields sample o ⌝ }
+// E0-FF. Each kind of instruction ends by itself: what they leave is then nowhere brought together.
+fn bus_codes(
+    row: CodeRow,
+    file: &mut [u8; 26],
+    core: Core,
+    fields: Fields,
+    b: u8,
+    a: u8,
+    sample: Sample,
+    o: Outputs,
+) -> Outcome
+    requires { ⌜ 0xE0 ≤ fields .code ⌝ }
+    ensures { λ r. ⌜ leaves (now (file .exit)) r ≡ twoBy row (now (file .entry)) core fields b a sample o ⌝ }
 {
-    let operands = fields.operands;
-    let number = checks::refusal(fields.code, operands);
+    match fields.code {
+        0x00..=0xE7 => {
+            let e = input(file, core, fields.code, b, a, sample);
+            done(row, core, fields, e, o)
+        }
+        0xE8..=0xEF => {
+            let e = load(file, core, fields.code, b, a, sample);
+            done(row, core, fields, e, o)
+        }
+        _ => {
+            let e = access(file, core, fields.code, b, a, sample);
+            done(row, core, fields, e, o)
+        }
+    }
+}
+
+fn two(
+    row: CodeRow,
+    file: &mut [u8; 26],
+    core: Core,
+    fields: Fields,
+    b: u8,
+    a: u8,
+    sample: Sample,
+    o: Outputs,
+) -> Outcome
+    ensures { λ r. ⌜ leaves (now (file .exit)) r ≡ twoBy row (now (file .entry)) core fields b a sample o ⌝ }
+{
+    match fields.code {
+        0x00..=0x7F => {
+            let e = codes_70_to_77(file, core, fields.code, b, a, sample);
+            done(row, core, fields, e, o)
+        }
+        0x80..=0xDF => {
+            let e = operation(file, core, fields.code, b, a, sample);
+            done(row, core, fields, e, o)
+        }
+        _ => bus_codes(row, file, core, fields, b, a, sample, o),
+    }
+}
+
+// Two designators: refusals, then waiting, then execution.
+fn checked_two(
+    row: CodeRow,
+    file: &mut [u8; 26],
+    core: Core,
+    fields: Fields,
+    b: u8,
+    a: u8,
+    sample: Sample,
+    o: Outputs,
+) -> Outcome
+    ensures { λ r. ⌜ leaves (now (file .exit)) r ≡ checkedTwoBy row (now (file .entry)) core fields b a sample o ⌝ }
+{
+    let number = checks::refusal(row, fields.code, b, a);
     if number != 0 {
         return outcome_of(core, 0, 0, number);
     }
-    if checks::waiting(fields.code, sample) {
+    if checks::waiting(row, fields.code, sample) {
         return outcome_of(core, control::placed(10, 0), 1, 0);
     }
-    executed(file, core, fields, sample, o)
+    two(row, file, core, fields, b, a, sample, o)
+}
+
+// A listed word: a jump or a literal is executed at once.
+fn checked(
+    row: CodeRow,
+    file: &mut [u8; 26],
+    core: Core,
+    fields: Fields,
+    sample: Sample,
+    o: Outputs,
+) -> Outcome
+    ensures { λ r. ⌜ leaves (now (file .exit)) r ≡ checkedBy row (now (file .entry)) core fields sample o ⌝ }
+{
+    let operands = fields.operands;
+    match operands {
+        Operands::Jump(n) => {
+            let e = jumped(core, fields.code, n);
+            done(row, core, fields, e, o)
+        }
+        Operands::Literal { value, reg } => {
+            let e = literal(file, core, fields.code, value, reg);
+            done(row, core, fields, e, o)
+        }
+        Operands::Two { b, a } => checked_two(row, file, core, fields, b, a, sample, o),
+    }
 }
 
 fn reset(core: Core) -> Core
@@ -183,59 +341,68 @@ fn modified(word: u32, l: Latches) -> u32
     word
 }
 
-// With RESET low and COMPUTE high: the word at LC is taken, and the modification goes in.
-fn fetched(words: &[u8], o: Outputs, file: &mut [u8; 26], core: Core, sample: Sample) -> Outcome
-    ensures { λ r. ⌜ leaves (now (file .exit)) r ≡ fetchedOf (now (words .entry)) o (now (file .entry)) core sample ⌝ }
+// What the first n rows of the table put out for a word with this bit 17. Without rows nothing is looked at.
+fn outputs(table: [Packed; 128], n: usize, core: Core, rni: bool, sample: Sample) -> Outputs
+    ensures { λ r. ⌜ r ≡ scanIn (take n table) (inputsOf core rni sample) ⌝ }
 {
-    let at = core.address.lc as usize;
-    if words.len() / 4 <= at {
-        return outcome_of(core, 0, 0, 5);
-    }
-    let word = numbers::quad_at(words, at * 4);
-    let l = core.latches;
-    let apart = code::taken_apart(modified(word, l));
-    match apart {
-        Apart::Word(fields) => checked(file, core, fields, sample, o),
-        Apart::OutOfRange => outcome_of(core, 0, 0, 2),
-        Apart::Unlisted => outcome_of(core, 0, 0, 6),
-    }
-}
-
-// What the first n rows of the table put out for the word at LC. Without rows nothing is looked at.
-fn outputs(words: &[u8], table: [Row; 128], n: usize, core: Core, sample: Sample) -> Outputs
-    ensures { λ r. ⌜ r ≡ outputsOf (now (words .entry)) (take n table) core sample ⌝ }
-{
-    let at = core.address.lc as usize;
-    if words.len() / 4 <= at {
-        return rows::none();
-    }
     if n == 0 {
         return rows::none();
     }
-    let word = numbers::quad_at(words, at * 4);
-    rows::scan_table(
-        table,
-        n,
-        control::inputs(core, word / 0x2_0000 % 2 == 1, sample),
-    )
+    rows::scan_table(table, n, control::inputs(core, rni, sample))
 }
 
-pub fn attempt(
+// With RESET low and COMPUTE high: the word at LC is taken, the modification goes in, and the row of its top byte is read.
+fn fetched(
+    codes: &[u32; 256],
     words: &[u8],
-    table: [Row; 128],
+    table: [Packed; 128],
     n: usize,
     file: &mut [u8; 26],
     core: Core,
     sample: Sample,
 ) -> Outcome
-    ensures { λ r. ⌜ leaves (now (file .exit)) r ≡ attemptOf (now (words .entry)) (take n table) (now (file .entry)) core sample ⌝ }
+    ensures { λ r. ⌜ leaves (now (file .exit)) r ≡ fetchedBy (now (codes .entry)) (now (words .entry)) (take n table) (now (file .entry)) core sample ⌝ }
+{
+    let at = core.address.lc as usize;
+    if words.len() / 4 <= at {
+        return outcome_of(core, 0, 0, 5);
+    }
+    let stored = numbers::quad(
+        words[at * 4],
+        words[at * 4 + 1],
+        words[at * 4 + 2],
+        words[at * 4 + 3],
+    );
+    let o = outputs(table, n, core, stored / 0x2_0000 % 2 == 1, sample);
+    let l = core.latches;
+    let word = modified(stored, l);
+    let row = code::row_in(codes, (word / 0x100 % 0x100) as u8);
+    let class = row.class;
+    let apart = code::taken_apart_as(class, word);
+    match apart {
+        Apart::Word(fields) => checked(row, file, core, fields, sample, o),
+        Apart::OutOfRange => outcome_of(core, 0, 0, 2),
+        Apart::Unlisted => outcome_of(core, 0, 0, 6),
+    }
+}
+
+// By the table of top bytes that is lent and the first n of the translation rows, packed.
+pub fn attempt(
+    codes: &[u32; 256],
+    words: &[u8],
+    table: [Packed; 128],
+    n: usize,
+    file: &mut [u8; 26],
+    core: Core,
+    sample: Sample,
+) -> Outcome
+    ensures { λ r. ⌜ leaves (now (file .exit)) r ≡ attemptBy (now (codes .entry)) (now (words .entry)) (take n table) (now (file .entry)) core sample ⌝ }
 {
     if sample.reset {
         return outcome_of(reset(core), control::placed(11, 0), 1, 0);
     }
     if sample.compute {
-        let o = outputs(words, table, n, core, sample);
-        return fetched(words, o, file, core, sample);
+        return fetched(codes, words, table, n, file, core, sample);
     }
     outcome_of(core, control::placed(12, 0), 1, 0)
 }

@@ -9,9 +9,10 @@ use Rattle.choose.specs.Below.{allBelow}
 use Rattle.choose.proofs.Ranged.{in-rest}
 use Rattle.choose.proofs.Table.{below}
 use Rattle.choose.proofs.Tests.{holds}
-use Rattle.code.specs.CodeRows.{classOf, classes, listed}
-use Rattle.code.specs.Word.{codeOf, same}
+use Rattle.code.specs.CodeRows.{classOf, classes, listed, rowOf, cyclesOf}
+use Rattle.code.specs.Word.{codeIn, codeOf, same}
 use Rattle.code.specs.declared.Class.{Class}
+use Rattle.code.proofs.Digits.{listed-row, row-of-code}
 use Rattle.code.proofs.Shape.{strideOf, same-class}
 
 -- what is past 255 is unlisted
@@ -36,3 +37,10 @@ class-kept top q h g =
     (holds _
     (below (strideOf (classOf top)) (λ p. same (classOf (codeOf top + p)) (classOf top))
     (below 0x100 (λ x. allBelow (strideOf (classOf x)) (λ p. same (classOf (codeOf x + p)) (classOf x))) tt top h) q g))
+
+-- what the row of a listed top byte says of cycles is said of the instruction
+pub cycles-of-code : (top : ℕ) → listed (classOf top) ≡ true → rowOf top .cycles ≡ cyclesOf (codeIn (classOf top) top)
+unfolding codeOf
+cycles-of-code top e =
+    let h = listed-below top e in
+    rw (← row-of-code top h, listed-row (codeOf top) (rw (class-of-code top h) e))

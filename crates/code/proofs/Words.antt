@@ -8,7 +8,7 @@ use borrow.Author.Tests.{lt-ltb, ltb-true, eq-eqb, eqb-true}
 use Rattle.choose.specs.Ranged.{bit, pick}
 use Rattle.code.specs.CodeRows.{classOf, listed, classNumber}
 use Rattle.choose.proofs.Tests.{both-true, bit-le, is-bit, bit-is}
-use Rattle.code.specs.Word.{topOf, codeOf, codeIn, fieldsIn, apartOf, wellFormed, lowOf, wordOf, WellFormed, Fit}
+use Rattle.code.specs.Word.{topOf, codeOf, codeIn, fieldsIn, apartAs, apartOf, wellFormed, lowOf, wordOf, WellFormed, Fit}
 use Rattle.code.specs.declared.Class.{Class}
 use Rattle.code.specs.declared.Operands.{Operands}
 use Rattle.code.specs.declared.Fields.{Fields}
@@ -19,6 +19,11 @@ use Rattle.code.proofs.Tops.{listed-below, class-of-code, class-kept}
 -- the class of a word, and the fields that it has
 abbrev pub classIn : ℕ → Class
 classIn w = classOf (topOf w)
+
+-- a word is taken apart as its own class
+pub apart-as : (w : ℕ) → apartAs (classIn w) w ≡ apartOf w
+unfolding apartAs apartOf
+apart-as w = refl
 
 -- a word that comes apart is below 2^22 and listed, and the fields are its own
 pub apart-is : (w : ℕ) (f : Fields) → apartOf w ≡ Apart.Word f → (w < 0x40_0000) × (listed (classIn w) ≡ true) × (fieldsIn (classIn w) w ≡ f)

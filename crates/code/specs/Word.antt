@@ -35,6 +35,14 @@ operandsIn Class.Conditional w = Operands.Jump (w % 0x100)
 operandsIn Class.Literal w = Operands.Literal (w / 0x10 % 0x100) (w % 0x10)
 operandsIn Class.Register w = Operands.Two (w / 0x10 % 0x10) (w % 0x10)
 
+-- the address of a jump; 0 for what is none
+abbrev pub targetIn : Class → ℕ → ℕ
+targetIn Class.Unlisted w = 0
+targetIn Class.Jump w = w % 0x800
+targetIn Class.Conditional w = w % 0x100
+targetIn Class.Literal w = 0
+targetIn Class.Register w = 0
+
 -- "Bits 15-0 are the instruction, 16 loads RR, 17 is RNI, 18-21 are the user's outputs"
 unfoldable pub fieldsIn : Class → ℕ → Fields
 fieldsIn k w =
@@ -46,6 +54,10 @@ fieldsIn k w =
       rni = eqb (w / 0x2_0000 % 2) 1;
       user = w / 0x4_0000 % 0x10;
     }
+
+-- where its top byte is of the class k
+unfoldable pub apartAs : Class → ℕ → Apart
+apartAs k w = pick (ltb w 0x40_0000) (pick (listed k) (Apart.Word (fieldsIn k w)) Apart.Unlisted) Apart.OutOfRange
 
 unfoldable pub apartOf : ℕ → Apart
 apartOf w =

@@ -5,7 +5,7 @@ ghost use Prim.Native.Nat.{_<_};
 ghost use lib.ListN.{getD};
 ghost use Rattle.code.specs.CodeRows.{classOf, listed, classNumber, rowOf};
 ghost use Rattle.code.specs.Entries.{classAt, rowOfEntry, entries};
-ghost use Rattle.code.specs.Word.{codeIn, operandsIn, apartOf, same, reachOf, fitsIn, wellFormed, lowOf, togetherOf};
+ghost use Rattle.code.specs.Word.{codeIn, targetIn, operandsIn, apartAs, apartOf, same, reachOf, fitsIn, wellFormed, lowOf, togetherOf};
 
 mod table;
 
@@ -139,59 +139,6 @@ fn is_listed(class: Class) -> bool
     }
 }
 
-fn code_in(class: Class, top: u8) -> u8
-    ensures { λ r. ⌜ r ≡ codeIn class top ⌝ }
-{
-    match class {
-        Class::Unlisted => top,
-        Class::Jump => top / 8 * 8,
-        Class::Conditional => top,
-        Class::Literal => top / 0x10 * 0x10,
-        Class::Register => top,
-    }
-}
-
-pub fn operands_in(class: Class, word: u32) -> Operands
-    ensures { λ r. ⌜ r ≡ operandsIn class word ⌝ }
-{
-    match class {
-        Class::Unlisted => Operands::Jump(0),
-        Class::Jump => Operands::Jump((word % 0x800) as u16),
-        Class::Conditional => Operands::Jump((word % 0x100) as u16),
-        Class::Literal => Operands::Literal {
-            value: (word / 0x10 % 0x100) as u8,
-            reg: (word % 0x10) as u8,
-        },
-        Class::Register => Operands::Two {
-            b: (word / 0x10 % 0x10) as u8,
-            a: (word % 0x10) as u8,
-        },
-    }
-}
-
-pub fn taken_apart(word: u32) -> Apart
-    ensures { λ r. ⌜ r ≡ apartOf word ⌝ }
-{
-    if 0x40_0000 <= word {
-        return Apart::OutOfRange;
-    }
-    let top = (word / 0x100 % 0x100) as u8;
-    let class = class_of(top);
-    if !is_listed(class) {
-        return Apart::Unlisted;
-    }
-    let code = code_in(class, top);
-    let operands = operands_in(class, word);
-    Apart::Word(Fields {
-        code,
-        class,
-        operands,
-        load_rr: word / 0x1_0000 % 2 == 1,
-        rni: word / 0x2_0000 % 2 == 1,
-        user: (word / 0x4_0000 % 0x10) as u8,
-    })
-}
-
 fn class_number(class: Class) -> u8
     ensures { λ r. ⌜ r ≡ classNumber class ⌝ }
 {
@@ -208,6 +155,81 @@ fn is_same(x: Class, y: Class) -> bool
     ensures { λ r. ⌜ r ≡ same x y ⌝ }
 {
     class_number(x) == class_number(y)
+}
+
+// Tests and no match here and below: a table of jumps, which the compiler would make of five classes, is guessed worse than two tests.
+fn code_in(class: Class, top: u8) -> u8
+    ensures { λ r. ⌜ r ≡ codeIn class top ⌝ }
+{
+    if is_same(class, Class::Register) {
+        return top;
+    }
+    if is_same(class, Class::Literal) {
+        return top / 0x10 * 0x10;
+    }
+    if is_same(class, Class::Jump) {
+        return top / 8 * 8;
+    }
+    top
+}
+
+fn target_in(class: Class, word: u32) -> u16
+    ensures { λ r. ⌜ r ≡ targetIn class word ⌝ }
+{
+    match class {
+        Class::Jump => (word % 0x800) as u16,
+        Class::Conditional => (word % 0x100) as u16,
+        _ => 0,
+    }
+}
+
+pub fn operands_in(class: Class, word: u32) -> Operands
+    ensures { λ r. ⌜ r ≡ operandsIn class word ⌝ }
+{
+    if is_same(class, Class::Register) {
+        return Operands::Two {
+            b: (word / 0x10 % 0x10) as u8,
+            a: (word % 0x10) as u8,
+        };
+    }
+    if is_same(class, Class::Literal) {
+        return Operands::Literal {
+            value: (word / 0x10 % 0x100) as u8,
+            reg: (word % 0x10) as u8,
+        };
+    }
+    Operands::Jump(target_in(class, word))
+}
+
+// A word taken apart whose top byte is of this class.
+pub fn taken_apart_as(class: Class, word: u32) -> Apart
+    ensures { λ r. ⌜ r ≡ apartAs class word ⌝ }
+{
+    if 0x40_0000 <= word {
+        return Apart::OutOfRange;
+    }
+    if !is_listed(class) {
+        return Apart::Unlisted;
+    }
+    let top = (word / 0x100 % 0x100) as u8;
+    let code = code_in(class, top);
+    let operands = operands_in(class, word);
+    Apart::Word(Fields {
+        code,
+        class,
+        operands,
+        load_rr: word / 0x1_0000 % 2 == 1,
+        rni: word / 0x2_0000 % 2 == 1,
+        user: (word / 0x4_0000 % 0x10) as u8,
+    })
+}
+
+pub fn taken_apart(word: u32) -> Apart
+    ensures { λ r. ⌜ r ≡ apartOf word ⌝ }
+{
+    let top = (word / 0x100 % 0x100) as u8;
+    let class = class_of(top);
+    taken_apart_as(class, word)
 }
 
 fn reach(class: Class) -> u16

@@ -1,3 +1,4 @@
 pub mod Bus
 pub mod Latches
 pub mod Next
+pub mod Parts

@@ -8,8 +8,11 @@ use state::Core;
 use state::Latches;
 use state::Sample;
 ghost use mathlib.Core.Path.{_≡_};
+ghost use Prim.Native.Nat.{_≤_};
 ghost use Rattle.control.specs.Bus.{busWith, afterInput, busAfter, placed, requestOf};
-ghost use Rattle.control.specs.Latches.{used, withInterrupts, withModification, withLoaded, inputLatchesOf, latchesAfter};
+ghost use Rattle.control.specs.Latches.{used, withInterrupts, withModification, withLoaded, inputLatchesOf};
+ghost use Rattle.control.specs.Parts.{latchesAfter70To77, latchesAfterInput, latchesAfterLoad};
+ghost use Rattle.rows.specs.Scan.{none};
 ghost use Rattle.control.specs.Next.{conditionOf, jumpTaken, withinPage, wayOf, trByteOf, inputsOf, plusOne, onwardOf, nextOf, rrOf, tsrOf, addressAfter};
 
 fn bus_with(m: u16, sync: bool, iack: bool) -> Bus
@@ -132,18 +135,30 @@ fn with_modification(l: Latches, modification: u16) -> Latches
     }
 }
 
-pub fn latches_after(l: Latches, code: u8, b: u8, ra: u8, pair: u16, sample: Sample) -> Latches
-    ensures { λ r. ⌜ r ≡ latchesAfter l code b ra pair sample ⌝ }
+pub fn latches_after_70_to_77(l: Latches, code: u8, b: u8, ra: u8) -> Latches
+    ensures { λ r. ⌜ r ≡ latchesAfter70To77 l code b ra ⌝ }
 {
     match code {
-        0x00..=0x6F => used(l),
         0x70 => with_interrupts(l, l.interrupts & (7 - b % 8)),
         0x71 => with_interrupts(l, l.interrupts | b % 8),
-        0x72..=0x74 => used(l),
         0x75 => with_loaded(l, ra % 8, l.tr, l.ics),
-        0x76..=0xE1 => used(l),
+        _ => used(l),
+    }
+}
+
+pub fn latches_after_input(l: Latches, code: u8, b: u8, sample: Sample) -> Latches
+    ensures { λ r. ⌜ r ≡ latchesAfterInput l code b sample ⌝ }
+{
+    match code {
         0xE2..=0xE3 => input_latches(l, b, sample.dal, sample.ics),
-        0xE4..=0xEB => used(l),
+        _ => used(l),
+    }
+}
+
+pub fn latches_after_load(l: Latches, code: u8, pair: u16) -> Latches
+    ensures { λ r. ⌜ r ≡ latchesAfterLoad l code pair ⌝ }
+{
+    match code {
         0xEC..=0xED => with_modification(l, pair),
         0xEE..=0xEF => with_loaded(l, l.g, pair, l.ics),
         _ => used(l),
@@ -158,22 +173,24 @@ pub enum Way {
 }
 
 fn condition(code: u8, f: Flags, ics: bool) -> bool
+    requires { ⌜ 0x10 ≤ code ⌝ }
     ensures { λ r. ⌜ r ≡ conditionOf code f ics ⌝ }
 {
-    match code {
-        0x00..=0x11 => f.zb,
-        0x12..=0x13 => f.c8,
-        0x14..=0x15 => ics,
-        0x16..=0x17 => f.nb,
-        0x18..=0x19 => f.z,
-        0x1A..=0x1B => f.c,
-        0x1C..=0x1D => f.v,
+    match code / 2 {
+        0x08 => f.zb,
+        0x09 => f.c8,
+        0x0A => ics,
+        0x0B => f.nb,
+        0x0C => f.z,
+        0x0D => f.c,
+        0x0E => f.v,
         _ => f.n,
     }
 }
 
 // Odd codes jump where the condition is true, even ones where it is false.
 fn jump_taken(code: u8, f: Flags, ics: bool) -> bool
+    requires { ⌜ 0x10 ≤ code ⌝ }
     ensures { λ r. ⌜ r ≡ jumpTaken code f ics ⌝ }
 {
     let t = condition(code, f, ics);
@@ -279,11 +296,27 @@ fn tsr_after(tsr: u8, code: u8, o: Outputs) -> u8
     tsr
 }
 
+// Where no row puts a line out, nothing of the rows is looked at.
+fn unled(a: Address, way: Way) -> u16
+    ensures { λ r. ⌜ r ≡ nextOf a way none ⌝ }
+{
+    match way {
+        Way::Jump(to) => to,
+        Way::Return => a.rr,
+        Way::Onward => plus_one(a.lc),
+    }
+}
+
 pub fn address_after(a: Address, way: Way, code: u8, loads: bool, o: Outputs) -> Address
     ensures { λ r. ⌜ r ≡ addressAfter a way code loads o ⌝ }
 {
-    let lc = next(a, way, o);
     let rr = rr_after(a, loads);
+    if o.lines == 0 {
+        let lc = unled(a, way);
+        let tsr = tsr_after(a.tsr, code, rows::none());
+        return Address { lc, rr, tsr };
+    }
+    let lc = next(a, way, o);
     let tsr = tsr_after(a.tsr, code, o);
     Address { lc, rr, tsr }
 }

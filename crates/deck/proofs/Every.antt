@@ -1,28 +1,25 @@
--- The rows of a section one by one, and its words: by induction over their number. Assumes nothing.
-use mathlib.Core.Path.{_≡_, refl, sym}
-use mathlib.Core.Bool.{Bool, true, false, _&&_, and-true, and-comm}
-use mathlib.Core.List.{List, [], _∷_}
-use mathlib.Core.Logic.{_⊎_, ⊎-elim}
-use Prim.Native.Nat.{ℕ, zero, suc, _+_, _*_, _/_, _<_, _≤_}
-use native.Mathlib.Nat.{eq-or-lt-of-le}
+-- The rows of a section one by one, its words and its samples: by induction over their number, and by the unused bits of each. Assumes nothing.
+use mathlib.Core.Path.{_≡_, refl, ap, _∙_}
+use mathlib.Core.Bool.{Bool, true, false, _&&_, and-true, and-comm, false≢true}
+use mathlib.Core.List.{List}
+use Prim.Native.Nat.{ℕ, zero, suc, _+_, _-_, _*_, _/_, _^_, _<_}
+use native.Mathlib.Nat.{mod-eq-of-lt, div-lt-iff-lt-mul}
 use native.Mathlib.Omega.{arith}
-use borrow.Author.Tests.{lt-ltb, le-ltb, leb-true, leb-false}
-use lib.Dec.{leb, ltb}
-use lib.ListN.{length, getD, List·getD-append}
-use lib.Seq.{getD-at}
+use borrow.Author.Tests.{eq-eqb, ne-eqb, eqb-true, lt-ltb, ltb-true, le-leb, leb-true}
+use lib.Bits.{bitAnd, bitOr, or-add-and, and-le-l, and-le-r, and-block, and-high}
+use lib.Dec.{eqb, leb, ltb}
+use lib.ListN.{length}
+use lib.Pow.{pow-add, pow-pos}
 use Rattle.choose.specs.Below.{allBelow}
 use Rattle.choose.proofs.Table.{all-same}
+use Rattle.choose.proofs.Tests.{both-true}
 use Rattle.numbers.specs.Numbers.{wordAt, Bytes}
 use Rattle.numbers.proofs.Laws.{byte-below, quad-bytes}
 use Rattle.rows.specs.Section.{rowFrom, rowsOf}
-use Rattle.rows.specs.Table.{emptyRow, wholeRows, filledTable, tableOf}
 use Rattle.rows.specs.Range.{rowInRange, rowsInRange}
-use Rattle.rows.proofs.Laws.{range-append, rows-length}
+use Rattle.rows.proofs.Laws.{range-append}
+use Rattle.deck.specs.Elements.{linesAt, interruptsAt}
 use Rattle.deck.specs.Quads.{everyQuad}
-
--- the last of n + 1 elements, or one before it
-last : (n i : ℕ) → i < suc n → (i ≡ n) ⊎ (i < n)
-last n i l = eq-or-lt-of-le (omega arith)
 
 -- the rows of a section, one by one
 pub rows-every : (s : List ℕ) (n : ℕ) → rowsInRange (rowsOf s n) ≡ allBelow n (λ i. rowInRange (rowFrom s (i * 16)))
@@ -30,31 +27,58 @@ unfolding rowsOf rowsInRange
 rows-every s zero = refl
 rows-every s (suc n) = rw (range-append (rowsOf s n), and-true (rowInRange (rowFrom s (n * 16))), and-comm (rowsInRange (rowsOf s n)), rows-every s n)
 
-row-of : (s : List ℕ) (n i : ℕ) → i < n → getD (rowsOf s n) i emptyRow ≡ rowFrom s (i * 16)
-unfolding rowsOf
-row-of s zero i l = absurd (omega arith)
-row-of s (suc n) i l =
-    ⊎-elim
-    (λ (e : i ≡ n). rw e (getD-at (rowsOf s n) (rowFrom s (n * 16)) [] emptyRow n (rows-length s n)))
-    (λ (m : i < n). rw (List·getD-append (rowsOf s n) (rowFrom s (n * 16) ∷ []) emptyRow i (omega (arith, rows-length s n))) (row-of s n i m))
-    (last n i l)
+-- ---- unused bits
+-- a test that holds just where a number is 0
+zero-test : (x : ℕ) (t : Bool) → (t ≡ true → x ≡ 0) → (x ≡ 0 → t ≡ true) → eqb x 0 ≡ t
+zero-test x true f g = eq-eqb x 0 (f refl)
+zero-test x false f g = ne-eqb x 0 (λ e. false≢true (g e))
 
--- the table that `rows::load` makes has the section's rows in their places
-pub table-row : (s : List ℕ) (i : ℕ) → i < length s / 16 → length s / 16 ≤ 128 → getD (tableOf s) i emptyRow ≡ rowFrom s (i * 16)
-unfolding filledTable
-table-row s i l h =
-    let n : i < wholeRows s = omega arith in
-    rw (List·getD-append (rowsOf s (wholeRows s)) _ emptyRow i (omega (arith, rows-length s (wholeRows s)))) (row-of s (wholeRows s) i n)
+-- an OR is 0 just where both are
+pub or-none : (a b : ℕ) → eqb (bitOr a b) 0 ≡ eqb b 0 && eqb a 0
+or-none a b =
+    let sum = or-add-and a b in
+    let left = and-le-l a b in
+    let right = and-le-r a b in
+    zero-test (bitOr a b) (eqb b 0 && eqb a 0)
+    (λ h. let (last, first) = both-true (eqb b 0) (eqb a 0) h in omega (arith, eqb-true b 0 last, eqb-true a 0 first))
+    (λ e. rw (eq-eqb b 0 (omega arith), eq-eqb a 0 (omega arith)))
 
--- a word below 2^22 has at most 63 in its third byte and nothing in its fourth
-small : (a b c d w : ℕ) → a < 256 → b < 256 → w ≡ a + 256 * b + 65536 * c + 16777216 * d → leb c 63 && leb d 0 ≡ ltb w 4194304
-small a b c d w ha hb e = go (leb c 63) refl (leb d 0) refl
-  where
-    go : (t : Bool) → leb c 63 ≡ t → (u : Bool) → leb d 0 ≡ u → t && u ≡ ltb w 4194304
-    go true p true q = sym (lt-ltb w 4194304 (omega (arith, leb-true c 63 p, leb-true d 0 q)))
-    go true p false q = sym (le-ltb w 4194304 (omega (arith, leb-false d 0 q)))
-    go false p u q = sym (le-ltb w 4194304 (omega (arith, leb-false c 63 p)))
+-- the bits of a number of j + k bits above the first k
+top : (j k w : ℕ) → w < 2 ^ (j + k) → bitAnd w (2 ^ (j + k) - 2 ^ k) ≡ w / 2 ^ k * 2 ^ k
+top j k w h =
+    let few : w / 2 ^ k < 2 ^ j = div-lt-iff-lt-mul (pow-pos k) .1 (rw pow-add at h) in
+    and-high w j k ∙ ap (λ (q : ℕ). q * 2 ^ k) (mod-eq-of-lt few)
 
-pub words-every : (s : List ℕ) → Bytes s → everyQuad s 63 0 ≡ allBelow (length s / 4) (λ i. ltb (wordAt s i) 4194304)
-unfolding everyQuad wordAt
-words-every s b = all-same _ _ (λ i. small _ _ _ _ _ (byte-below s b (i * 4)) (byte-below s b (i * 4 + 1)) (quad-bytes s (i * 4))) (length s / 4)
+-- a word of at most 22 bits
+word : (a b c d w : ℕ) → a < 256 → b < 256 → c < 256 → d < 256 → w ≡ a + 256 * b + 65536 * c + 16777216 * d
+    → eqb (bitAnd w 0xFFC0_0000) 0 ≡ ltb w 4194304
+word a b c d w ha hb hc hd e =
+    let unused : bitAnd w 0xFFC0_0000 ≡ w / 4194304 * 4194304 = top 10 22 w (omega arith) in
+    zero-test (bitAnd w 0xFFC0_0000) (ltb w 4194304) (λ t. omega (arith, ltb-true w 4194304 t)) (λ z. lt-ltb w 4194304 (omega arith))
+
+-- a sample with at most five lines and four interrupts
+sample : (a b c d w : ℕ) → a < 256 → b < 256 → c < 256 → d < 256 → w ≡ a + 256 * b + 65536 * c + 16777216 * d
+    → eqb (bitAnd w 0xF0E0_0000) 0 ≡ leb c 31 && leb d 15
+sample a b c d w ha hb hc hd e =
+    let r = a + 256 * b + 65536 * c in
+    let split : w ≡ d * 16777216 + r = omega arith in
+    let lines : bitAnd r 0xE0_0000 ≡ r / 2097152 * 2097152 = top 3 21 r (omega arith) in
+    let interrupts : bitAnd d 0xF0 ≡ d / 16 * 16 = top 4 4 d (omega arith) in
+    let unused : bitAnd w 0xF0E0_0000 ≡ bitAnd d 0xF0 * 16777216 + bitAnd r 0xE0_0000 =
+    rw split (and-block 24 d 0xF0 r 0xE0_0000 (omega arith) (omega arith)) in
+    zero-test (bitAnd w 0xF0E0_0000) (leb c 31 && leb d 15)
+    (λ t. let (x, y) = both-true (leb c 31) (leb d 15) t in omega (arith, leb-true c 31 x, leb-true d 15 y))
+    (λ z. rw (le-leb c 31 (omega arith), le-leb d 15 (omega arith)))
+
+module _ (s : List ℕ) (b : Bytes s) where
+  pub words-every : everyQuad s 0xFFC0_0000 ≡ allBelow (length s / 4) (λ i. ltb (wordAt s i) 4194304)
+  unfolding everyQuad wordAt
+  words-every =
+      let at = byte-below s b in
+      all-same _ _ (λ i. word _ _ _ _ _ (at (i * 4)) (at (i * 4 + 1)) (at (i * 4 + 2)) (at (i * 4 + 3)) (quad-bytes s (i * 4))) (length s / 4)
+
+  pub samples-every : everyQuad s 0xF0E0_0000 ≡ allBelow (length s / 4) (λ i. leb (linesAt s i) 31 && leb (interruptsAt s i) 15)
+  unfolding everyQuad wordAt
+  samples-every =
+      let at = byte-below s b in
+      all-same _ _ (λ i. sample _ _ _ _ _ (at (i * 4)) (at (i * 4 + 1)) (at (i * 4 + 2)) (at (i * 4 + 3)) (quad-bytes s (i * 4))) (length s / 4)

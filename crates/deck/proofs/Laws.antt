@@ -12,14 +12,14 @@ use lib.Seq.{drop-drop}
 use Rattle.choose.proofs.Choice.{pick-all}
 use Rattle.choose.proofs.Tests.{three}
 use Rattle.choose.proofs.Table.{all-at}
-use Rattle.numbers.specs.Numbers.{wordAt, Bytes}
+use Rattle.numbers.specs.Numbers.{byteAt, wordAt, Bytes}
 use Rattle.choose.specs.Below.{allBelow}
 use Rattle.numbers.proofs.Laws.{take-bytes, drop-bytes}
 use Rattle.rows.specs.Section.{rowsOf}
 use Rattle.rows.specs.Range.{rowsInRange}
 use Rattle.state_bytes.specs.Range.{stateInRange}
 use Rattle.deck.specs.Sections.{countAt, sectionEnd, layoutOf, wholeOf, sectionOf, wordsPart, rowsPart, statePart, samplesPart}
-use Rattle.deck.specs.Elements.{linesAt, interruptsAt}
+use Rattle.deck.specs.Elements.{linesAt, interruptsAt, sampleOf, sampleAt}
 use Rattle.deck.specs.Ranges.{wordsInRange, rowsPartInRange, samplesInRange, placesEnough, unless, deckRefusalOf, Accepted}
 
 -- what is tested of a whole deck
@@ -151,6 +151,11 @@ sample-in-range s h i l =
     let p = and-eq-true-iff (leb (length s / 4) 65535) (allBelow (length s / 4) test) .0 h in
     let q = and-eq-true-iff (leb (linesAt s i) 31) (leb (interruptsAt s i) 15) .0 (all-at test (length s / 4) i (p .1) l) in
     (leb-true _ _ (q .0), leb-true _ _ (q .1))
+
+-- a sample's four bytes
+pub sample-of : (s : List ℕ) (i : ℕ) → sampleOf (byteAt s (i * 4)) (byteAt s (i * 4 + 1)) (linesAt s i) (interruptsAt s i) ≡ sampleAt s i
+unfolding sampleAt
+sample-of s i = refl
 
 -- the rows that `rows::load` makes a table of
 pub rows-in-range : (s : List ℕ) → rowsPartInRange s ≡ true → (length s / 16 ≤ 128) × (rowsInRange (rowsOf s (length s / 16)) ≡ true)

@@ -1,4 +1,5 @@
 mod Every
 pub mod Laws
+pub mod Layouts
 pub mod Order
 pub mod Slip

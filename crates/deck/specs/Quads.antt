@@ -1,13 +1,14 @@
--- How the code tests words and samples: both are elements of four bytes, and only the last two have limits. This is the code's way only; Every
+-- How the code tests words and samples: both are numbers of four bytes with bits that are not used. This is the code's way only; Every
 -- says that it is what Ranges asks.
-use mathlib.Core.Bool.{Bool, _&&_}
+use mathlib.Core.Bool.{Bool}
 use mathlib.Core.List.{List}
-use Prim.Native.Nat.{ℕ, _+_, _*_, _/_}
-use lib.Dec.{leb}
+use Prim.Native.Nat.{ℕ, _/_}
+use lib.Bits.{bitAnd}
+use lib.Dec.{eqb}
 use lib.ListN.{length}
-use Rattle.numbers.specs.Numbers.{byteAt}
+use Rattle.numbers.specs.Numbers.{wordAt}
 use Rattle.choose.specs.Below.{allBelow}
 
--- of each whole element of four bytes, the last two have these limits
-unfoldable pub everyQuad : List ℕ → ℕ → ℕ → Bool
-everyQuad s third fourth = allBelow (length s / 4) (λ i. leb (byteAt s (i * 4 + 2)) third && leb (byteAt s (i * 4 + 3)) fourth)
+-- no whole element of four bytes has one of the unused bits
+unfoldable pub everyQuad : List ℕ → ℕ → Bool
+everyQuad s unused = allBelow (length s / 4) (λ i. eqb (bitAnd (wordAt s i) unused) 0)

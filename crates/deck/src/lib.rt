@@ -1,13 +1,12 @@
 // A deck's bytes: its four sections, each handed back as that part of the deck, what they hold, and the refusals before the first attempt.
 use state::Sample;
 ghost use mathlib.Core.Path.{_≡_};
-ghost use mathlib.Core.Bool.{true};
 ghost use Prim.Native.Nat.{_+_, _≤_};
-ghost use lib.ListN.{length};
-ghost use Rattle.deck.specs.Sections.{sectionEnd, layoutOf, wholeOf, sectionOf, wordsPart, rowsPart, statePart, samplesPart};
-ghost use Rattle.deck.specs.Elements.{sampleAt};
+ghost use Rattle.deck.specs.Sections.{sectionEnd, layoutOf};
+ghost use Rattle.deck.specs.Elements.{sampleOf};
 ghost use Rattle.deck.specs.Ranges.{wordsInRange, rowsPartInRange, samplesInRange, deckRefusalOf};
 ghost use Rattle.deck.specs.Quads.{everyQuad};
+ghost use Rattle.deck.specs.Layouts.{wholeBy, between, refusalBy};
 
 // Where the sections after the words start, each at its count, and where the last one ends.
 pub struct Layout {
@@ -43,110 +42,97 @@ pub fn sections(deck: &[u8]) -> Layout
 }
 
 // The deck is as long as its counts say and no longer than a deck may be, and it has one state.
-pub fn whole(deck: &[u8]) -> bool
-    ensures { λ r. ⌜ r ≡ wholeOf (now (deck .entry)) ⌝ }
+fn whole(deck: &[u8], l: Layout) -> bool
+    ensures { λ r. ⌜ r ≡ wholeBy (now (deck .entry)) l ⌝ }
 {
-    let l = sections(deck);
     let states = numbers::pair_at(deck, l.state);
     (deck.len() <= 65536) & (states == 1) & (l.end == deck.len())
 }
 
-// The section that starts at byte a, without its count; the empty part of a deck that is not whole.
-fn section(deck: &[u8], a: usize, size: usize) -> &[u8]
-    requires { ⌜ (wholeOf (now deck) ≡ true → sectionEnd (now deck) a size ≤ length (now deck)) ⌝ }
-    ensures { λ r. ⌜ now r ≡ sectionOf (now (deck .entry)) a size ⌝ }
+// The section whose count is at byte a and which ends before byte end; the empty part where the deck has none such.
+fn section(deck: &[u8], a: usize, end: usize) -> &[u8]
+    ensures { λ r. ⌜ now r ≡ between (now (deck .entry)) a end ⌝ }
 {
-    if whole(deck) {
+    if (end <= deck.len()) & (a <= end) {
         let from = a + 2;
-        let count = numbers::pair_at(deck, a) as usize;
-        let end = from + size * count;
-        return &deck[from..end];
+        if from <= end {
+            return &deck[from..end];
+        }
     }
     &deck[0..0]
 }
 
-pub fn words(deck: &[u8]) -> &[u8]
-    ensures { λ r. ⌜ now r ≡ wordsPart (now (deck .entry)) ⌝ }
+pub fn words(deck: &[u8], l: Layout) -> &[u8]
+    ensures { λ r. ⌜ now r ≡ between (now (deck .entry)) 0 (l .rows) ⌝ }
 {
-    section(deck, 0, 4)
+    section(deck, 0, l.rows)
 }
 
-pub fn rows(deck: &[u8]) -> &[u8]
-    ensures { λ r. ⌜ now r ≡ rowsPart (now (deck .entry)) ⌝ }
+pub fn rows(deck: &[u8], l: Layout) -> &[u8]
+    ensures { λ r. ⌜ now r ≡ between (now (deck .entry)) (l .rows) (l .state) ⌝ }
 {
-    let l = sections(deck);
-    section(deck, l.rows, 16)
+    section(deck, l.rows, l.state)
 }
 
-pub fn state(deck: &[u8]) -> &[u8]
-    ensures { λ r. ⌜ now r ≡ statePart (now (deck .entry)) ⌝ }
+pub fn state(deck: &[u8], l: Layout) -> &[u8]
+    ensures { λ r. ⌜ now r ≡ between (now (deck .entry)) (l .state) (l .samples) ⌝ }
 {
-    let l = sections(deck);
-    section(deck, l.state, 41)
+    section(deck, l.state, l.samples)
 }
 
-pub fn samples(deck: &[u8]) -> &[u8]
-    ensures { λ r. ⌜ now r ≡ samplesPart (now (deck .entry)) ⌝ }
+pub fn samples(deck: &[u8], l: Layout) -> &[u8]
+    ensures { λ r. ⌜ now r ≡ between (now (deck .entry)) (l .samples) (l .end) ⌝ }
 {
-    let l = sections(deck);
-    section(deck, l.samples, 4)
+    section(deck, l.samples, l.end)
 }
 
-// What is missing reads as 0; the test keeps i * 4 from wrapping.
-pub fn sample(part: &[u8], i: usize) -> Sample
-    ensures { λ r. ⌜ r ≡ sampleAt (now (part .entry)) i ⌝ }
+// The sample that four bytes hold.
+pub fn sample(low: u8, high: u8, lines: u8, interrupts: u8) -> Sample
+    ensures { λ r. ⌜ r ≡ sampleOf low high lines interrupts ⌝ }
 {
-    if i <= part.len() / 4 {
-        let a = i * 4;
-        let lines = numbers::byte_at(part, a + 2);
-        return Sample {
-            dal: numbers::pair_at(part, a),
-            reply: lines % 2 == 1,
-            busy: lines / 2 % 2 == 1,
-            compute: lines / 4 % 2 == 1,
-            reset: lines / 8 % 2 == 1,
-            ics: lines / 16 % 2 == 1,
-            interrupts: numbers::byte_at(part, a + 3),
-        };
-    }
     Sample {
-        dal: 0,
-        reply: false,
-        busy: false,
-        compute: false,
-        reset: false,
-        ics: false,
-        interrupts: 0,
+        reply: lines % 2 == 1,
+        dal: numbers::pair(low, high),
+        busy: lines / 2 % 2 == 1,
+        compute: lines / 4 % 2 == 1,
+        reset: lines / 8 % 2 == 1,
+        ics: lines / 16 % 2 == 1,
+        interrupts,
     }
 }
 
-// Words and samples alike: the unused bits of four bytes are in the last two, which have these limits.
-fn every_quad(part: &[u8], third: u8, fourth: u8) -> bool
-    ensures { λ r. ⌜ r ≡ everyQuad (now (part .entry)) third fourth ⌝ }
+// Words and samples alike, four bytes each: none has one of the unused bits. All are looked at, so that several go at once.
+fn every_quad(part: &[u8], unused: u32) -> bool
+    ensures { λ r. ⌜ r ≡ everyQuad (now (part .entry)) unused ⌝ }
 {
     let n = part.len() / 4;
+    let mut seen: u32 = 0;
     let mut i = 0;
     while i < n {
-        if !((part[i * 4 + 2] <= third) & (part[i * 4 + 3] <= fourth)) {
-            return false;
-        }
+        let q = numbers::quad(
+            part[i * 4],
+            part[i * 4 + 1],
+            part[i * 4 + 2],
+            part[i * 4 + 3],
+        );
+        seen = seen | (q & unused);
         i += 1;
     }
-    true
+    seen == 0
 }
 
-// 22 bits: six in the third byte, none in the fourth.
+// 22 bits.
 pub fn words_in_range(part: &[u8]) -> bool
     ensures { λ r. ⌜ r ≡ wordsInRange (now (part .entry)) ⌝ }
 {
-    (part.len() / 4 <= 2048) & every_quad(part, 63, 0)
+    (part.len() / 4 <= 2048) & every_quad(part, 0xFFC0_0000)
 }
 
-// Five lines and four interrupts.
+// 16 bits of data, five lines and four interrupts.
 pub fn samples_in_range(part: &[u8]) -> bool
     ensures { λ r. ⌜ r ≡ samplesInRange (now (part .entry)) ⌝ }
 {
-    (part.len() / 4 <= 65535) & every_quad(part, 31, 15)
+    (part.len() / 4 <= 65535) & every_quad(part, 0xF0E0_0000)
 }
 
 // More than 128 rows are refused unread: a table has room for no more.
@@ -157,10 +143,9 @@ pub fn rows_in_range(part: &[u8]) -> bool
     if 128 < n {
         return false;
     }
-    let table = rows::load(part);
     let mut i = 0;
     while i < n {
-        if !rows::in_range(table[i]) {
+        if !rows::in_range(rows::row_at(part, i * 16)) {
             return false;
         }
         i += 1;
@@ -168,25 +153,39 @@ pub fn rows_in_range(part: &[u8]) -> bool
     true
 }
 
+// A deck looked through before its first attempt: the refusal, or 0, and its layout.
+pub struct Opened {
+    pub refusal: u8,
+    pub layout: Layout,
+}
+
 // The refusal before the first attempt, or 0; the lengths are those of the host's two buffers, in bytes.
-pub fn refusal(deck: &[u8], requests_len: usize, state_len: usize) -> u8
-    ensures { λ r. ⌜ r ≡ deckRefusalOf (now (deck .entry)) «requests_len» «state_len» ⌝ }
+fn refusal(deck: &[u8], l: Layout, requests_len: usize, state_len: usize) -> u8
+    ensures { λ r. ⌜ r ≡ refusalBy (now (deck .entry)) l «requests_len» «state_len» ⌝ }
 {
-    if !(whole(deck) & (state_len == 41)) {
+    if !(whole(deck, l) & (state_len == 41)) {
         return 9;
     }
-    if !state_bytes::in_range(state(deck)) {
+    if !state_bytes::in_range(state(deck, l)) {
         return 1;
     }
-    if !words_in_range(words(deck)) {
+    if !words_in_range(words(deck, l)) {
         return 2;
     }
-    if !rows_in_range(rows(deck)) {
+    if !rows_in_range(rows(deck, l)) {
         return 3;
     }
-    let attempts = samples(deck);
+    let attempts = samples(deck, l);
     if !(samples_in_range(attempts) & (attempts.len() / 4 <= requests_len / 4)) {
         return 4;
     }
     0
+}
+
+pub fn open(deck: &[u8], requests_len: usize, state_len: usize) -> Opened
+    ensures { λ r. ⌜ (r .refusal ≡ deckRefusalOf (now (deck .entry)) «requests_len» «state_len») × (r .layout ≡ layoutOf (now (deck .entry))) ⌝ }
+{
+    let layout = sections(deck);
+    let refusal = refusal(deck, layout, requests_len, state_len);
+    Opened { refusal, layout }
 }

@@ -28,7 +28,7 @@ fn line(deck: &[u8]) {
     after_space(r.microcycles as u64);
     match answer {
         9 => {}
-        1..=4 => lc_and_flags(deck::state(deck)),
+        1..=4 => lc_and_flags(deck::state(deck, deck::sections(deck))),
         _ => lc_and_flags(&state),
     }
     io::write_all(STDOUT_FILENO, b"\n");

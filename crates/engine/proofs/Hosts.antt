@@ -1,21 +1,30 @@
 -- Laws of the host's entry: what an accepted deck gives the run, and what comes back.
 -- Assumes nothing.
 use Prim.Native.Nat.{ℕ, _*_, _/_, _≤_}
-use mathlib.Core.Path.{_≡_}
+use mathlib.Core.Path.{_≡_, sym, ap, _∙_}
 use mathlib.Core.List.{List}
 use native.Mathlib.Omega.{arith}
 use lib.ListN.{length, take}
 use borrow.Author.Tests.{eq-eqb, ne-eqb}
+use Rattle.attempt.proofs.Lent.{attempt-lent}
+use Rattle.code.specs.Entries.{entries}
+use Rattle.deck.specs.declared.Layout.{Layout}
+use Rattle.deck.specs.Layouts.{between}
 use Rattle.deck.specs.Sections.{layoutOf, wordsPart, rowsPart, statePart, samplesPart}
 use Rattle.deck.specs.Ranges.{deckRefusalOf}
-use Rattle.deck.proofs.Laws.{accepted, fits, part-length, rows-in-range, samples-few}
+use Rattle.deck.proofs.Layouts.{sections-by-layout}
+use Rattle.deck.proofs.Laws.{accepted, rows-in-range, samples-few}
 use Rattle.rows.specs.Section.{rowsOf}
-use Rattle.rows.specs.Table.{tableOf}
-use Rattle.rows.specs.declared.Row.{Row}
+use Rattle.rows.specs.Packing.{packedRows}
+use Rattle.rows.specs.Table.{tableOf, wholeRows}
+use Rattle.rows.specs.declared.Packed.{Packed}
 use Rattle.rows.proofs.Laws.{table-rows}
 use Rattle.state.specs.declared.Core.{Core}
+use Rattle.state.specs.declared.Sample.{Sample}
 use Rattle.state_bytes.specs.Bytes.{storedOf, Loaded}
 use Rattle.engine.specs.Run.{World, world, runFrom, samplesFrom}
+use Rattle.engine.specs.RunEnds.{runBy}
+use Rattle.engine.proofs.Loop.{run-as}
 use Rattle.engine.specs.Host.{hosted, reported, deckRun, hostOf}
 
 module _ (deck : List ℕ) (requests buffer : ℕ) (h : deckRefusalOf deck requests buffer ≡ 0) where
@@ -25,12 +34,22 @@ module _ (deck : List ℕ) (requests buffer : ℕ) (h : deckRefusalOf deck reque
       let a = accepted deck requests buffer h in
       (samples-few (samplesPart deck) (a .samples), omega (arith, a .places))
 
-  -- the table's rows are those of the section
-  pub loads : take (length (rowsPart deck) / 16) (tableOf (rowsPart deck)) ≡ rowsOf (rowsPart deck) (length (rowsPart deck) / 16)
+  -- the sections by the deck's layout
+  pub parts : (l : Layout) → l ≡ layoutOf deck
+      → (between deck 0 (l .rows) ≡ wordsPart deck)
+      × (between deck (l .rows) (l .state) ≡ rowsPart deck)
+      × (between deck (l .state) (l .samples) ≡ statePart deck)
+      × (between deck (l .samples) (l .end) ≡ samplesPart deck)
+  parts l e = rw e (sections-by-layout deck (accepted deck requests buffer h .whole))
+
+  -- the table's rows are those of the section, packed
+  pub loads : take (length (rowsPart deck) / 16) (tableOf (rowsPart deck)) ≡ packedRows (rowsOf (rowsPart deck) (length (rowsPart deck) / 16))
   loads =
-      let a = accepted deck requests buffer h in
-      let l = part-length deck (layoutOf deck .rows) 16 (a .whole) (fits deck (a .whole) .1) in
-      table-rows (rowsPart deck) (length (rowsPart deck) / 16) (rows-in-range (rowsPart deck) (a .rows) .0) (omega arith)
+      let few : wholeRows (rowsPart deck) ≡ length (rowsPart deck) / 16 =
+      omega (arith, rows-in-range (rowsPart deck) (accepted deck requests buffer h .rows) .0) in
+      sym (ap (λ (n : ℕ). take n (tableOf (rowsPart deck))) few)
+      ∙ table-rows (rowsPart deck)
+      ∙ ap (λ (n : ℕ). packedRows (rowsOf (rowsPart deck) n)) few
 
 module _ (deck requests state : List ℕ) where
   pub refuses : (deckRefusalOf deck (length requests) (length state) ≡ 0 → ⊥)
@@ -43,10 +62,21 @@ module _ (deck requests state : List ℕ) where
   unfolding hostOf
   answers h w e = rw (eq-eqb _ 0 h, e)
 
+  -- by THE table and the deck's own rows, each attempt is the one of 01
+  own-rows : deckRefusalOf deck (length requests) (length state) ≡ 0
+      → (ss : List Sample) (w : World)
+      → let rows = rowsOf (rowsPart deck) (length (rowsPart deck) / 16) in
+      runBy entries (wordsPart deck) (packedRows rows) ss w ≡ runFrom (wordsPart deck) rows ss w
+  own-rows h ss w =
+      let rows = rowsOf (rowsPart deck) (length (rowsPart deck) / 16) in
+      let good = rows-in-range (rowsPart deck) (accepted deck (length requests) (length state) h .rows) .1 in
+      run-as entries (wordsPart deck) (packedRows rows) rows (λ xs k s. attempt-lent (wordsPart deck) rows xs k s good) ss w
+
   -- the run over the parts that were handed back is the deck's run
-  pub same-run : deckRefusalOf deck (length requests) (length state) ≡ 0 → (words samples part xs : List ℕ) (table : List Row) (k : Core)
-      → words ≡ wordsPart deck → samples ≡ samplesPart deck → part ≡ rowsPart deck → table ≡ tableOf part → Loaded (statePart deck) k xs
-      → runFrom words (take (length part / 16) table) (samplesFrom samples 0 (length samples / 4)) (world xs k 0 0 0 requests) ≡ deckRun deck requests
+  pub same-run : deckRefusalOf deck (length requests) (length state) ≡ 0
+      → (codes words samples part xs : List ℕ) (table : List Packed) (k : Core)
+      → codes ≡ entries → words ≡ wordsPart deck → samples ≡ samplesPart deck → part ≡ rowsPart deck → table ≡ tableOf part → Loaded (statePart deck) k xs
+      → runBy codes words (take (length part / 16) table) (samplesFrom samples 0 (length samples / 4)) (world xs k 0 0 0 requests) ≡ deckRun deck requests
   unfolding deckRun
-  same-run h words samples part xs table k ew es ep et l =
-      rw (ew, es, et, ep, l .core, l .file, loads deck (length requests) (length state) h)
+  same-run h codes words samples part xs table k ec ew es ep et l =
+      rw (ec, ew, es, et, ep, l .core, l .file, loads deck (length requests) (length state) h) (own-rows h _ _)

@@ -1,3 +1,4 @@
+pub mod Loop
 pub mod Places
 pub mod Runs
 pub mod Hosts

@@ -1,11 +1,13 @@
 // The run, and the bench host's entry.
-use rows::Row;
+use rows::Packed;
 use state::Core;
+use state::Sample;
 ghost use mathlib.Core.Path.{_≡_};
 ghost use Prim.Native.Nat.{_*_, _+_, _≤_};
 ghost use lib.ListN.{length, take};
-ghost use Rattle.engine.specs.Run.{world, put4Of, runFrom, samplesFrom};
-ghost use Rattle.engine.specs.RunEnds.{runEnd, worldOf};
+ghost use Rattle.deck.specs.Elements.{sampleAt};
+ghost use Rattle.engine.specs.Run.{world, put4Of, samplesFrom};
+ghost use Rattle.engine.specs.RunEnds.{runEnd, worldOf, runBy};
 ghost use Rattle.engine.specs.Host.{hosted, hostOf};
 
 fn put4(b: &mut [u8], at: usize, x: u32)
@@ -37,10 +39,23 @@ fn run_end(core: Core, answer: u8, attempts: usize, microcycles: u32) -> RunEnd
     }
 }
 
+fn sample(samples: &[u8], i: usize) -> Sample
+    requires { ⌜ i * 4 + 4 ≤ length (now samples) ⌝ }
+    ensures { λ r. ⌜ r ≡ sampleAt (now (samples .entry)) i ⌝ }
+{
+    deck::sample(
+        samples[i * 4],
+        samples[i * 4 + 1],
+        samples[i * 4 + 2],
+        samples[i * 4 + 3],
+    )
+}
+
 // An attempt for each of n samples, until one is refused.
 fn attempts(
+    codes: &[u32; 256],
     words: &[u8],
-    table: [Row; 128],
+    table: [Packed; 128],
     m: usize,
     samples: &[u8],
     requests: &mut [u8],
@@ -48,16 +63,16 @@ fn attempts(
     first: Core,
     n: usize,
 ) -> RunEnd
-    requires { ⌜ (n ≤ 65535) × (n * 4 ≤ length (now requests)) ⌝ }
+    requires { ⌜ (n ≤ 65535) × (n * 4 ≤ length (now requests)) × (n * 4 ≤ length (now samples)) ⌝ }
     ensures short { λ r. ⌜ r .attempts ≤ n ⌝ }
-    ensures whole { λ r. ⌜ worldOf r (now (file .exit)) (now (requests .exit)) ≡ runFrom (now (words .entry)) (take m table) (samplesFrom (now (samples .entry)) 0 n) (world (now (file .entry)) first 0 0 0 (now (requests .entry))) ⌝ }
+    ensures whole { λ r. ⌜ worldOf r (now (file .exit)) (now (requests .exit)) ≡ runBy (now (codes .entry)) (now (words .entry)) (take m table) (samplesFrom (now (samples .entry)) 0 n) (world (now (file .entry)) first 0 0 0 (now (requests .entry))) ⌝ }
 {
     let mut core = first;
     let mut microcycles: u32 = 0;
     let mut i = 0;
     while i < n {
-        let s = deck::sample(samples, i);
-        let o = attempt::attempt(words, table, m, file, core, s);
+        let s = sample(samples, i);
+        let o = attempt::attempt(codes, words, table, m, file, core, s);
         let answer = o.refusal;
         if answer != 0 {
             return run_end(core, answer, i, microcycles);
@@ -82,23 +97,26 @@ pub struct Report {
 pub extern "C" fn run(deck: &[u8], requests: &mut [u8], state: &mut [u8]) -> Report
     ensures { λ r. ⌜ hosted r (now (requests .exit)) (now (state .exit)) ≡ hostOf (now (deck .entry)) (now (requests .entry)) (now (state .entry)) ⌝ }
 {
-    let number = deck::refusal(deck, requests.len(), state.len());
-    if number != 0 {
+    let opened = deck::open(deck, requests.len(), state.len());
+    if opened.refusal != 0 {
         return Report {
-            answer: number as u32,
+            answer: opened.refusal as u32,
             attempts: 0,
             microcycles: 0,
         };
     }
+    let l = opened.layout;
     let mut file = [0u8; 26];
-    let core = state_bytes::load(deck::state(deck), &mut file);
-    let part = deck::rows(deck);
+    let core = state_bytes::load(deck::state(deck, l), &mut file);
+    let codes = code::rows();
+    let part = deck::rows(deck, l);
     let table = rows::load(part);
     let m = part.len() / 16;
-    let samples = deck::samples(deck);
+    let samples = deck::samples(deck, l);
     let n = samples.len() / 4;
     let ran = attempts(
-        deck::words(deck),
+        &codes,
+        deck::words(deck, l),
         table,
         m,
         samples,

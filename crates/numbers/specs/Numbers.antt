@@ -12,6 +12,9 @@ pairOf low high = low + 256 * high
 abbrev pub pairAt : List ℕ → ℕ → ℕ
 pairAt s a = pairOf (byteAt s a) (byteAt s (a + 1))
 
+abbrev pub quadOf : ℕ → ℕ → ℕ → ℕ → ℕ
+quadOf b0 b1 b2 b3 = pairOf b0 b1 + 65536 * pairOf b2 b3
+
 abbrev pub quadAt : List ℕ → ℕ → ℕ
 quadAt s a = pairAt s a + 65536 * pairAt s (a + 2)
 

@@ -187,9 +187,8 @@ fn line(top: u8, listed: bool, vectors: u8) {
     match code::taken_apart(top as u32 * 0x100) {
         Apart::Word(f) => {
             if listed & (f.code == top) {
-                let operands = f.operands;
-                let refusal = checks::refusal(top, operands);
-                requirement(top, code::row_of(top), refusal, vectors);
+                let row = code::row_of(top);
+                requirement(top, row, checks::refusal(row, top, 0, 0), vectors);
             }
         }
         Apart::OutOfRange => {}

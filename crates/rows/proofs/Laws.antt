@@ -1,5 +1,5 @@
 -- Laws that other crates cite, each by induction over the rows: of no rows, of rows in range, and of the table that `load` makes. Assumes nothing.
-use mathlib.Core.Path.{_≡_, refl}
+use mathlib.Core.Path.{_≡_, refl, ap, _∙_}
 use mathlib.Core.Bool.{true, _&&_, and-eq-true-iff, and-assoc}
 use mathlib.Core.List.{List, [], _∷_, _++_}
 use Prim.Native.Nat.{ℕ, zero, suc, _*_, _≤_, zero-le}
@@ -16,6 +16,7 @@ use Rattle.rows.specs.declared.Row.{Row}
 use Rattle.rows.specs.declared.Inputs.{Inputs}
 use Rattle.rows.specs.declared.Outputs.{Outputs}
 use Rattle.rows.specs.Scan.{matchedOf, ored, mergedOf, none, scanFrom, scanOf}
+use Rattle.rows.specs.Packing.{packedRows, scannedIn, scanIn}
 use Rattle.rows.specs.Section.{rowsOf}
 use Rattle.rows.specs.Table.{wholeRows, filledTable, tableOf}
 use Rattle.rows.specs.Range.{masksFit, outputsFit, valuesInMasks, rowInRange, rowsInRange, OutputsInRange}
@@ -24,6 +25,10 @@ use Rattle.rows.specs.Range.{masksFit, outputsFit, valuesInMasks, rowInR
 pub scan-none : (i : Inputs) → scanOf [] i ≡ none
 unfolding scanFrom
 scan-none i = refl
+
+pub packed-none : (i : Inputs) → scanIn [] i ≡ none
+unfolding scannedIn
+packed-none i = refl
 
 -- ---- rows in range
 -- a row in range puts out what is in range
@@ -44,7 +49,7 @@ ored-in-range o r g h =
       tsr = omega (arith, or-lt 3 (o .«new_tsr») (r .«new_tsr») (omega arith) (omega arith));
     }
 
-merged-in-range : (o : Outputs) (r : Row) (i : Inputs) → OutputsInRange o → rowInRange r ≡ true → OutputsInRange (mergedOf o r i)
+pub merged-in-range : (o : Outputs) (r : Row) (i : Inputs) → OutputsInRange o → rowInRange r ≡ true → OutputsInRange (mergedOf o r i)
 unfolding mergedOf
 merged-in-range o r i g h = pick-all OutputsInRange (matchedOf r i) (ored o r) o (ored-in-range o r g h) g
 
@@ -71,9 +76,19 @@ unfolding rowsOf
 rows-length s zero = refl
 rows-length s (suc n) = rw (length-append, rows-length s n) (add-one n)
 
--- a section of n rows, at most 128: they are the first n of its table
-pub table-rows : (s : List ℕ) (n : ℕ) → n ≤ 128 → length s ≡ n * 16 → take n (tableOf s) ≡ rowsOf s n
+rows-packed-length : (rs : List Row) → length (packedRows rs) ≡ length rs
+unfolding packedRows
+rows-packed-length [] = refl
+rows-packed-length (r ∷ rs) = ap suc (rows-packed-length rs)
+
+pub packed-length : (s : List ℕ) (n : ℕ) → length (packedRows (rowsOf s n)) ≡ n
+packed-length s n = rows-packed-length (rowsOf s n) ∙ rows-length s n
+
+-- the first rows of a section's table are its rows, packed
+pub table-rows : (s : List ℕ) → take (wholeRows s) (tableOf s) ≡ packedRows (rowsOf s (wholeRows s))
 unfolding filledTable
-table-rows s n l e =
-    let h : wholeRows s ≡ n = omega arith in
-    rw h (take-at (rowsOf s n) _ n (rows-length s n))
+table-rows s = take-at (packedRows (rowsOf s (wholeRows s))) _ (wholeRows s) (packed-length s (wholeRows s))
+
+-- a section of n rows, at most 128, goes into its table whole
+pub whole-rows : (s : List ℕ) (n : ℕ) → n ≤ 128 → length s ≡ n * 16 → wholeRows s ≡ n
+whole-rows s n l e = omega arith

@@ -1,5 +1,6 @@
 mod Steps
-mod Lent
+pub mod Lent
 pub mod Laws
 pub mod Order
 pub mod Matching
+pub mod Packing

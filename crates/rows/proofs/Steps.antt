@@ -1,58 +1,99 @@
--- The steps of the loops of `scan` and `load`, one row more and none left, and what `scan_table` lends, by the laws of lists. Assumes nothing.
-use mathlib.Core.Path.{_≡_, refl, ap}
-use mathlib.Core.List.{List, [], _∷_, append-assoc}
-use Prim.Native.Nat.{ℕ, zero, suc, _+_, _-_, _*_, _<_, _≤_, min}
+-- The steps of the loops of `scan` and `load`, one row more and none left, and a row past the end, by the laws of lists. Assumes nothing.
+use mathlib.Core.Path.{_≡_, refl, sym, ap, _∙_}
+use mathlib.Core.List.{List, [], _∷_, _++_, append-assoc}
+use Prim.Native.Nat.{ℕ, zero, suc, min, _+_, _-_, _*_, _<_, _≤_}
 use native.Mathlib.Nat.{zero-min, suc-min-suc}
 use native.Mathlib.Numerals.{add-one}
 use native.Mathlib.Omega.{arith}
 use lib.Seq.{drop-cons, take-nil, set-at}
-use lib.ListN.{length, getD, take, set, replicate, drop, length-append, length-replicate, drop-of-length-le}
+use lib.ListN.{length, getD, set, replicate, take, drop, length-append, length-replicate, drop-of-length-le, List·getD-eq-default}
 use Rattle.rows.specs.declared.Row.{Row}
-use Rattle.rows.specs.declared.Inputs.{Inputs}
-use Rattle.rows.specs.declared.Outputs.{Outputs}
-use Rattle.rows.specs.Scan.{mergedOf, scanFrom}
+use Rattle.rows.specs.declared.Packed.{Packed}
+use Rattle.rows.specs.Packing.{packedOf, packedRows, mergedIn, scannedIn}
 use Rattle.rows.specs.Section.{rowFrom, rowsOf}
 use Rattle.rows.specs.Table.{emptyRow, atMost128, filledTable}
-use Rattle.rows.proofs.Laws.{rows-length}
+use Rattle.rows.proofs.Laws.{packed-length}
 
 -- the row at k, as `scan` reads it
-abbrev pub rowAt : List Row → ℕ → Row
-rowAt rs k = getD rs k emptyRow
+abbrev pub rowAt : List Packed → ℕ → Packed
+rowAt ps k = getD ps k emptyRow
 
--- a turn of `scan`: from what the row at k made of o, the rows that are left give the same
-pub scan-step : (rs : List Row) (k : ℕ) (o r : Outputs) (i : Inputs) → k < length rs → r ≡ mergedOf o (rowAt rs k) i
-    → scanFrom r (drop (k + 1) rs) i ≡ scanFrom o (drop k rs) i
-unfolding scanFrom
-scan-step rs k o r i l e = rw (add-one, drop-cons rs k emptyRow l, e)
+-- a step of `scan`: from what the row at k made of o, the rows that are left give the same
+pub scan-step : (ps : List Packed) (k j o r key : ℕ) → j ≡ k + 1 → k < length ps → r ≡ mergedIn o (rowAt ps k) key
+    → scannedIn r (drop j ps) key ≡ scannedIn o (drop k ps) key
+unfolding scannedIn
+scan-step ps k j o r key q l e = rw (q, add-one, drop-cons ps k emptyRow l, e)
 
 -- the end of `scan`: no row is left
-pub scan-end : (rs : List Row) (k : ℕ) (o : Outputs) (i : Inputs) → length rs ≤ k → scanFrom o (drop k rs) i ≡ o
-unfolding scanFrom
-scan-end rs k o i l = rw (drop-of-length-le rs l)
+pub scan-end : (ps : List Packed) (k o key : ℕ) → length ps ≤ k → scannedIn o (drop k ps) key ≡ o
+unfolding scannedIn
+scan-end ps k o key l = rw (drop-of-length-le ps l)
 
-take-min : (n : ℕ) (rs : List Row) → take (min n (length rs)) rs ≡ take n rs
-take-min zero rs = rw zero-min
+-- from the end on all rows are the row of zeros
+nothing-past : (s : List ℕ) (a : ℕ) → length s ≤ a → rowFrom s a ≡ rowFrom [] 0
+unfolding rowFrom
+nothing-past s a l =
+    rw (
+      none a (omega arith),
+      none (a + 1) (omega arith),
+      none (a + 2) (omega arith),
+      none (a + 2 + 1) (omega arith),
+      none (a + 4) (omega arith),
+      none (a + 5) (omega arith),
+      none (a + 6) (omega arith),
+      none (a + 7) (omega arith),
+      none (a + 8) (omega arith),
+      none (a + 9) (omega arith),
+      none (a + 10) (omega arith),
+      none (a + 11) (omega arith),
+      none (a + 12) (omega arith),
+      none (a + 12 + 1) (omega arith),
+      none (a + 14) (omega arith),
+      none (a + 15) (omega arith),
+    )
+  where
+    none : (b : ℕ) → length s ≤ b → getD s b 0 ≡ 0
+    none b h = List·getD-eq-default s 0 h
+
+pub row-past : (s : List ℕ) (a : ℕ) → length s ≤ a → rowFrom s (length s) ≡ rowFrom s a
+row-past s a l = nothing-past s (length s) (omega arith) ∙ sym (nothing-past s a l)
+
+take-min : (n : ℕ) (ps : List Packed) → take (min n (length ps)) ps ≡ take n ps
+take-min zero ps = rw zero-min
 take-min (suc n) [] = take-nil (min (suc n) 0)
-take-min (suc n) (r ∷ rs) = rw suc-min-suc (ap (λ (l : List Row). r ∷ l) (take-min n rs))
+take-min (suc n) (p ∷ ps) = rw suc-min-suc (ap (λ (l : List Packed). p ∷ l) (take-min n ps))
 
 -- a table has no more than 128 rows to lend
-pub take-at-most : (n : ℕ) (rs : List Row) → length rs ≡ 128 → take (atMost128 n) rs ≡ take n rs
-take-at-most n rs e = rw (← e) (take-min n rs)
+pub take-at-most : (n : ℕ) (ps : List Packed) → length ps ≡ 128 → take (atMost128 n) ps ≡ take n ps
+take-at-most n ps e = rw (← e) (take-min n ps)
 
 -- the start of `load`: an empty table
 pub filled-none : (s : List ℕ) → replicate 128 emptyRow ≡ filledTable s 0
-unfolding filledTable rowsOf
+unfolding filledTable rowsOf packedRows
 filled-none s = refl
 
 empty-more : (k : ℕ) → k < 128 → replicate (128 - k) emptyRow ≡ emptyRow ∷ replicate (128 - suc k) emptyRow
 empty-more k l = let e : 128 - k ≡ suc (128 - suc k) = omega arith in rw e
 
+packed-append : (rs : List Row) (r : Row) → packedRows (rs ++ (r ∷ [])) ≡ packedRows rs ++ (packedOf r ∷ [])
+unfolding packedRows
+packed-append [] r = refl
+packed-append (q ∷ rs) r = rw (packed-append rs r)
+
 -- a turn of `load`: the row is stored at k, and the rows before it stand
-pub filled-more : (s : List ℕ) (k : ℕ) (r : Row) → k < 128 → r ≡ rowFrom s (k * 16) → set (filledTable s k) k r ≡ filledTable s (k + 1)
+pub filled-more : (s : List ℕ) (k : ℕ) (p : Packed) → k < 128 → p ≡ packedOf (rowFrom s (k * 16)) → set (filledTable s k) k p ≡ filledTable s (k + 1)
 unfolding filledTable rowsOf
-filled-more s k r l e = rw (add-one, empty-more k l, set-at (rowsOf s k) emptyRow (replicate (128 - suc k) emptyRow) r k (rows-length s k), append-assoc, e)
+filled-more s k p l e =
+    rw (
+      add-one,
+      empty-more k l,
+      set-at (packedRows (rowsOf s k)) emptyRow (replicate (128 - suc k) emptyRow) p k (packed-length s k),
+      packed-append,
+      append-assoc,
+      e,
+    )
 
 -- a table has 128 rows, however many of them are filled
 pub filled-length : (s : List ℕ) (k : ℕ) → k ≤ 128 → length (filledTable s k) ≡ 128
 unfolding filledTable
-filled-length s k l = simp (length-append, length-replicate, rows-length) (omega arith)
+filled-length s k l = simp (length-append, length-replicate, packed-length) (omega arith)

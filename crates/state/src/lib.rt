@@ -22,12 +22,12 @@ pub struct Bus {
 
 // What else the instructions load: G, TR, ICS, the internal interrupts I4-I6 and the waiting modification, 0 when unmarked.
 pub struct Latches {
-    pub g: u8,
-    pub tr: u16,
-    pub ics: bool,
-    pub interrupts: u8,
-    pub marked: bool,
     pub modification: u16,
+    pub marked: bool,
+    pub ics: bool,
+    pub tr: u16,
+    pub g: u8,
+    pub interrupts: u8,
 }
 
 pub struct Core {
@@ -39,8 +39,8 @@ pub struct Core {
 
 // The lines as one attempt samples them; interrupts are I0-I3.
 pub struct Sample {
-    pub dal: u16,
     pub reply: bool,
+    pub dal: u16,
     pub busy: bool,
     pub compute: bool,
     pub reset: bool,

@@ -1,5 +1,6 @@
 //! A deck taken apart, as far as its counts go; nothing is tested for its range.
 
+use interpreter::decks::{case, Kind};
 use interpreter::section;
 
 /// An unlisted word, wherever a vector's own words do not lie: it must not be executed.
@@ -10,6 +11,18 @@ pub fn words_to(lc: u16, word: u32) -> Vec<u32> {
     let mut words = vec![ELSEWHERE; usize::from(lc)];
     words.push(word);
     words
+}
+
+/// One of the largest decks, with its first rows only, of 128. Same seed, same deck.
+pub fn largest(seed: u64, rows: usize) -> Vec<u8> {
+    let deck = case(Kind::Largest, seed).deck;
+    match Sections::of(&deck) {
+        Some(sections) => {
+            let rows = &sections.rows[..16 * rows];
+            Sections { rows, ..sections }.deck()
+        }
+        None => deck,
+    }
 }
 
 /// The bytes of the four sections, their counts left away.

@@ -1,62 +1,51 @@
--- `deck::section` meets its contract: a section of a whole deck lies within it. Assumes nothing.
+-- `deck::section` meets its contract: a section is handed back only where it lies within the deck. Assumes nothing.
 use native.Mathlib.Omega.{arith}
-use mathlib.Core.Path.{_≡_, sym, _∙_}
-use Prim.Native.Nat.{_+_, _-_, _*_, _≤_}
+use mathlib.Core.Path.{sym, _∙_}
+use mathlib.Core.Bool.{false≢true}
+use mathlib.Core.Logic.{⊎-elim}
+use Prim.Native.Nat.{_≤_}
+use borrow.Author.Tests.{leb-true, le-leb}
+use lib.Dec.{leb}
 use lib.ListN.{length}
-use Rattle.deck.specs.Sections.{sectionEnd, sectionOf}
-use Rattle.deck.proofs.Laws.{section-end-ge}
+use Rattle.choose.proofs.Tests.{both-true}
+use Rattle.deck.specs.Layouts.{between}
+use Rattle.deck.proofs.Layouts.{between-none}
 use borrow.Author.Needs.{needs}
 use Rattle.deck.proofs.section.Statement.{statement}
 use Rattle.deck.proofs.section.Tie as tie
 
-within : (c : tie.Then1) → let args = c .before .before .before .args in
-    sectionEnd (args .deck .now) (args .a) (args .size) ≤ length (args .deck .now)
+within : (c : tie.Then1) → let args = c .before .args in (args .end ≤ length (args .deck .now)) × (args .a ≤ args .end)
 within c =
-    let three = c .before .before .before in
-    three .pre (sym (c .before .whole .ensures) ∙ c .if1 .taken)
-
-room : (c : tie.After-pair-at) → let args = c .before .before .before .before .args in
-    args .a + 2 + args .size * c .pair-at .result ≤ length (args .deck .now)
-unfolding sectionEnd
-room c = rw (c .pair-at .ensures) (within (c .before))
+    let args = c .before .args in
+    let (end, start) = both-true (leb (args .end) (length (args .deck .now))) (leb (args .a) (args .end)) (c .if1 .taken) in
+    (leb-true _ _ end, leb-true _ _ start)
 
 add-from : tie.Need-add-from
-add-from c =
-    let three = c .before .before .before in
-    omega (arith, section-end-ge (three .args .deck .now) (three .args .a) (three .args .size), within c)
-
-mul-end : tie.Need-mul-end
-mul-end c = omega (arith, room c)
-
-add-end : tie.Need-add-end
-add-end c = omega (arith, room c)
+add-from c = omega (arith, within c .0, within c .1)
 
 part-result-end : tie.Need-part-result-end
-part-result-end c = room c
+part-result-end c = within (c .before) .0
 
 returns : tie.Need-returns
-unfolding sectionOf
-returns c =
-    let count = c .before .pair-at .result in
-    let tested = c .before .before in
-    let args = tested .before .before .before .args in
-    let e : args .a + 2 + args .size * count - (args .a + 2) ≡ args .size * count = omega arith in
-    rw (e, c .before .pair-at .ensures, sym (tested .before .whole .ensures) ∙ tested .if1 .taken)
+unfolding between
+returns c = rw (le-leb _ _ (within (c .before .before) .0), le-leb _ _ (c .before .if2 .taken))
 
 returns-2 : tie.Need-returns-2
-unfolding sectionOf
-returns-2 c = rw (sym (c .before .before .whole .ensures) ∙ c .before .if1 .left)
+returns-2 c =
+    let args = c .before .before .args in
+    sym
+    (between-none (args .deck .now) (args .a) (args .end)
+    (λ last room.
+    ⊎-elim (λ w. omega arith)
+    (λ w. false≢true (sym (w .left) ∙ rw (le-leb (args .end) _ last, le-leb (args .a) (args .end) (omega arith))))
+    (c .before .if1 .came)))
 
 pub section-spec : {M : Type 1} → statement M
 section-spec =
     tie.close
     (tie.spec
-    (search needs)
     add-from
-    (search needs) (search needs)
-    mul-end
-    add-end
-    (search needs) (search needs)
+    (search needs)
     part-result-end
     returns
     (search needs) (search needs) (search needs)

@@ -4,25 +4,28 @@ use mathlib.Core.Path.{_≡_, refl, sym, _∙_}
 use native.Mathlib.Omega.{arith}
 use lib.ListN.{length, take}
 use borrow.Author.Needs.{needs}
-use Rattle.engine.specs.Run.{world, runFrom, samplesFrom}
-use Rattle.engine.proofs.Runs.{left, begins, ends, goes-on, stops}
+use Rattle.engine.specs.Run.{world, samplesFrom}
+use Rattle.engine.specs.RunEnds.{runBy}
+use Rattle.engine.proofs.Loop.{left, begins, ends, goes-on, stops}
 use Rattle.engine.proofs.attempts.Statement.{statement}
 use Rattle.engine.proofs.attempts.Tie as tie
 use Rattle.state.specs.File.{leaves}
 
 abbrev Inv-loop : tie.InvT-loop
-Inv-loop words table m samples requests₀ file₀ n core₀ microcycles₀ i₀ requests file core microcycles i =
+Inv-loop codes words table m samples requests₀ file₀ n core₀ microcycles₀ i₀ requests file core microcycles i =
     let rows = take m table in
     (i ≤ n) × (length requests ≡ length requests₀) × (microcycles ≤ 255 * i)
-    × (left words rows samples n i file core microcycles requests ≡ runFrom words rows (samplesFrom samples 0 n) (world file₀ core₀ 0 0 0 requests₀))
+    × (left codes words rows samples n i file core microcycles requests ≡ runBy codes words rows (samplesFrom samples 0 n) (world file₀ core₀ 0 0 0 requests₀))
 
 abbrev μ-loop : tie.MeasureT-loop
-μ-loop words table m samples requests₀ file₀ n core₀ microcycles₀ i₀ requests file core microcycles i = n - i
+μ-loop codes words table m samples requests₀ file₀ n core₀ microcycles₀ i₀ requests file core microcycles i = n - i
 
 loop-holds : tie.Need-loop-holds Inv-loop μ-loop
 loop-holds c =
     let a = c .before .before .before .args in
-    let whole = begins (a .words .now) (take (a .m) (a .table)) (a .samples .now) (a .n) 0 (a .file .now) (a .first) 0 (a .requests .now) refl in
+    let whole =
+    begins (a .codes .now) (a .words .now) (take (a .m) (a .table))
+    (a .samples .now) (a .n) 0 (a .file .now) (a .first) 0 (a .requests .now) refl in
     (search needs, refl, search needs, whole)
 
 same-length : tie.Need-same-length Inv-loop μ-loop
@@ -38,8 +41,10 @@ returns c =
     let l = inside .before .loop in
     let a = inside .before .before .before .before .before .args in
     let o = refused .before .attempt in
-    let e = leaves (o .last .1 .1 .1 .0) (o .result) in
-    let stopped = stops (a .words .now) (take (a .m) (a .table)) (a .samples .now) (a .n) (l .i) (l .file) (l .core) (l .microcycles) (l .requests) in
+    let e = leaves (o .last .1 .1 .1 .1 .0) (o .result) in
+    let stopped =
+    stops (a .codes .now) (a .words .now) (take (a .m) (a .table))
+    (a .samples .now) (a .n) (l .i) (l .file) (l .core) (l .microcycles) (l .requests) in
     rw (c .run-end .ensures) (
       l .inv .0,
       sym (stopped e (rw (← sampled .sample .ensures) (o .ensures)) (inside .loop-test .taken) (refused .if1 .taken)) ∙ l .inv .3,
@@ -80,8 +85,10 @@ loop-again c = (
       let l = inside .before .loop in
       let a = inside .before .before .before .before .before .args in
       let o = attempted .attempt in
-      let e = leaves (o .last .1 .1 .1 .0) (o .result) in
-      let next = goes-on (a .words .now) (take (a .m) (a .table)) (a .samples .now) (a .n) (l .i) (l .file) (l .core) (l .microcycles) (l .requests) in
+      let e = leaves (o .last .1 .1 .1 .1 .0) (o .result) in
+      let next =
+      goes-on (a .codes .now) (a .words .now) (take (a .m) (a .table))
+      (a .samples .now) (a .n) (l .i) (l .file) (l .core) (l .microcycles) (l .requests) in
       rw (put .put4 .ensures)
       (sym (next e (rw (← sampled .sample .ensures) (o .ensures)) (inside .loop-test .taken) (passed .if1 .left)) ∙ l .inv .3),
 )
@@ -94,7 +101,9 @@ returns-2 c =
     let at = c .before .before in
     let l = at .loop in
     let a = at .before .before .before .before .args in
-    let ended = ends (a .words .now) (take (a .m) (a .table)) (a .samples .now) (a .n) (l .i) (l .file) (l .core) (l .microcycles) (l .requests) in
+    let ended =
+    ends (a .codes .now) (a .words .now) (take (a .m) (a .table))
+    (a .samples .now) (a .n) (l .i) (l .file) (l .core) (l .microcycles) (l .requests) in
     rw (c .run-end2 .ensures) (l .inv .0, sym (ended (c .before .loop-test .left)) ∙ l .inv .3)
 
 pub attempts-spec : {M : Type 1} → statement M

@@ -1,25 +1,14 @@
--- `execute::access` meets its contract: one cycle on Ra, and for the word codes one more on Rb.
-use Rattle.execute.specs.Execute.{accessOf}
-use borrow.Author.Tests.{eq-eqb, ne-eqb}
+-- `execute::access` meets its contract, by what `gained` ensures.
+use borrow.Author.Tests.{lt-ltb, le-ltb}
 use borrow.Author.Needs.{needs}
 use Rattle.execute.proofs.access.Statement.{statement}
 use Rattle.execute.proofs.access.Tie as tie
 
 returns : tie.Need-returns
-unfolding accessOf
-returns c =
-    let two = c .before .before in
-    let three = two .before in
-    let four = three .before in
-    rw (eq-eqb _ _ (two .if1 .taken), ← four .gain .ensures, ← three .plan-with .ensures) (c .one-cycle .ensures)
+returns c = rw (lt-ltb _ _ (c .before .before .if1 .taken)) (c .gained .ensures)
 
 returns-2 : tie.Need-returns-2
-unfolding accessOf
-returns-2 c =
-    let two = c .before .before in
-    let three = two .before in
-    let four = three .before in
-    rw (ne-eqb _ _ (two .if1 .left), ← four .gain .ensures, ← three .plan-with .ensures) (c .two-cycles .ensures)
+returns-2 c = rw (le-ltb _ _ (c .if1 .left))
 
 pub access-spec : {M : Type 1} → statement M
-access-spec = tie.close (tie.spec (search needs) (search needs) (search needs) returns (search needs) returns-2)
+access-spec = tie.close (tie.spec (search needs) returns returns-2)

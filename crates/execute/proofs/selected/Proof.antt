@@ -13,4 +13,4 @@ unfolding selectedOf
 returns-2 c = rw (← c .before .upper .ensures, c .if1 .left)
 
 pub selected-spec : {M : Type 1} → statement M
-selected-spec = tie.close (tie.spec (search needs) returns returns-2)
+selected-spec = tie.close (tie.spec (search needs) (search needs) returns (search needs) returns-2)

@@ -4,6 +4,7 @@ use Prim.Native.Nat.{_≤_, _-_, zero-le}
 use native.Mathlib.Omega.{arith}
 use lib.ListN.{length}
 use borrow.Author.Needs.{needs}
+use Rattle.rows.specs.Packing.{packedOf}
 use Rattle.rows.specs.Table.{filledTable}
 use Rattle.rows.proofs.Steps.{filled-none, filled-more, filled-length}
 use Rattle.rows.proofs.load.Statement.{statement}
@@ -20,15 +21,17 @@ loop-holds c = (zero-le, filled-none (c .before .before .args .s .now))
 
 array-set-from-table : tie.Need-array-set-from-table Inv-loop μ-loop
 array-set-from-table c =
-    let two = c .before .before in
-    let five = two .before .before .before in
-    omega (arith, ap length (two .loop .inv .1) ∙ filled-length (five .args .s .now) (two .loop .filled) (omega arith))
+    let at = c .before .before .before in
+    let s = at .before .before .before .args .s .now in
+    omega (arith, ap length (at .loop .inv .1) ∙ filled-length s (at .loop .filled) (omega arith))
 
 loop-again : tie.Need-loop-again Inv-loop μ-loop
 loop-again c =
-    let at = c .before .before .loop in
-    let s = c .before .before .before .before .before .args .s .now in
-    (omega arith, rw (at .inv .1) (filled-more s (at .filled) (c .row-from .result) (omega arith) (c .row-from .ensures)))
+    let at = c .before .before .before in
+    let s = at .before .before .before .args .s .now in (
+      omega arith,
+      rw (at .loop .inv .1) (filled-more s (at .loop .filled) (c .pack .result) (omega arith) (c .pack .ensures ∙ ap packedOf (c .before .row-at .ensures))),
+    )
 
 returns : tie.Need-returns Inv-loop μ-loop
 returns c =
@@ -44,7 +47,8 @@ load-spec =
     (search needs)
     loop-holds
     (λ c. omega arith)
-    (λ c κs. omega arith)
+    (λ c κs. search needs)
+    (λ c κs. search needs)
     (λ c. omega arith)
     array-set-from-table
     (λ c. omega arith)

@@ -1,11 +1,11 @@
--- `rows::matched` meets its contract: the five tests are those of the definition, in its order. Assumes nothing.
+-- `rows::matched` meets its contract: one AND and one comparison, as in the definition. Assumes nothing.
 use mathlib.Core.Path.{refl}
-use Rattle.rows.specs.Scan.{matchedOf}
+use Rattle.rows.specs.Packing.{matchedIn}
 use Rattle.rows.proofs.matched.Statement.{statement}
 use Rattle.rows.proofs.matched.Tie as tie
 
 returns : tie.Need-returns
-unfolding matchedOf
+unfolding matchedIn
 returns c = refl
 
 pub matched-spec : {M : Type 1} → statement M

@@ -47,15 +47,15 @@ use denote.Triple.Table.{entered, cited}
 use denote.Triple.Walked.{says, Stays, stay-dropped, walkOf, goes-dropped, Walks, ends-at, walked, walk-meets}
 use denote.Exit.{yes}
 use borrow.Table.Elements.{length-take-le}
-use Rattle.rows.specs.declared.Row.{Row}
+use Rattle.rows.specs.declared.Packed.{Packed}
 use Rattle.rows.specs.declared.Inputs.{Inputs}
 use Rattle.rows.specs.declared.Outputs.{Outputs}
-use Rattle.rows.specs.Scan.{scanOf}
+use Rattle.rows.specs.Packing.{scanIn}
 use Rattle.rows.specs.Table.{atMost128}
 use Rattle.rows.proofs.Steps.{take-at-most}
 use Rattle.rows.proofs.Lent as lent
-use Rattle.rows.proofs.Row as T
-use Rattle.rows.proofs.Row.Laws as T′
+use Rattle.rows.proofs.Packed as T
+use Rattle.rows.proofs.Packed.Laws as T′
 use Rattle.rows.proofs.Inputs as I
 use Rattle.rows.proofs.Inputs.Laws as I′
 use Rattle.rows.proofs.Outputs as O
@@ -76,7 +76,7 @@ use Rattle.rows.proofs.scan_table.Code as code
 abbrev R : RattleType
 R = T.the-row
 
-abbrev vals : Row → List Val
+abbrev vals : Packed → List Val
 vals = LL.vals T.the-type T′.the-laws
 
 abbrev ival : Inputs → Val
@@ -85,7 +85,7 @@ ival = LL.val I.the-type I′.the-laws
 room : Room R 128
 room = (lit< tt, lit< tt)
 
-abbrev held : List Row → Val
+abbrev held : List Packed → Val
 held = lent.held R tt vals (LL.tells T.the-type T′.the-laws) 128 room
 
 abbrev arrayTy : Ty
@@ -116,10 +116,10 @@ module _ {M : Type 1} (𝓤 : URA M) (H : Heap 𝓤) (A : Atoms 𝓤) (W : Given
     most-of : (m : ℕ) → ent 𝓤 (ensured 𝓤 H A most.ended (most.clauses 𝓤 H A mem run) tt (n, tt) tt m) (fact 𝓤 (m ≡ atMost128 n))
     most-of m = exE 𝓤 _ (λ ws. snd∗ 𝓤 (sem 𝓤 H A (lasts most.ended tt (n, tt) ws)) (fact 𝓤 (m ≡ atMost128 n)))
 
-  module _ (xs : List Row) (i : Inputs) (gx : Is (Array R 128) xs (held xs ∷ [])) (gi : Is I.the-row i (ival i ∷ [])) where
+  module _ (xs : List Packed) (i : Inputs) (gx : Is (Array R 128) xs (held xs ∷ [])) (gi : Is I.the-row i (ival i ∷ [])) where
     -- the loan of the first m rows in the local at l, for κ
     module _ (κ : Lft) (l m : ℕ) where
-      abbrev part : GName → RefT (List Row)
+      abbrev part : GName → RefT (List Packed)
       part γ = record { ptr = (l, 0); name = γ; now = take m xs }
 
       abbrev v₁ : Val
@@ -135,8 +135,8 @@ module _ {M : Type 1} (𝓤 : URA M) (H : Heap 𝓤) (A : Atoms 𝓤) (W : Given
           nothing ! $ move ! (2 ∷ 0 ∷ []) $ join ! $ join ! $ frame ! $ done !
 
       scan-of : (γ : GName) (r : Outputs) → ent 𝓤 (ensured 𝓤 H A scan.ended (scan.clauses 𝓤 H A mem run) (κ, tt) (part γ, (i, tt)) tt r)
-          (fact 𝓤 (r ≡ scanOf (take m xs) i))
-      scan-of γ r = exE 𝓤 _ (λ ws. snd∗ 𝓤 (sem 𝓤 H A (lasts scan.ended (κ, tt) (part γ, (i, tt)) ws)) (fact 𝓤 (r ≡ scanOf (take m xs) i)))
+          (fact 𝓤 (r ≡ scanIn (take m xs) i))
+      scan-of γ r = exE 𝓤 _ (λ ws. snd∗ 𝓤 (sem 𝓤 H A (lasts scan.ended (κ, tt) (part γ, (i, tt)) ws)) (fact 𝓤 (r ≡ scanIn (take m xs) i)))
 
       abbrev Part : GName → Fml
       Part = lent.Part R tt vals (LL.tells T.the-type T′.the-laws) 128 room 𝓤 H A W (LL.makes T.the-type T′.the-plain 𝓤 H A) κ l xs m gx
@@ -157,7 +157,7 @@ module _ {M : Type 1} (𝓤 : URA M) (H : Heap 𝓤) (A : Atoms 𝓤) (W : Given
       abbrev Post : Val → SProp 𝓤
       Post = walkOf 𝓤 H A scan-table.ended stayed (scan-table.clauses 𝓤 H A mem run) .post ((tt, tt, tt, (xs, (n, (i, tt))), at), tt)
 
-      exits : (r : Outputs) (v : Val) → Is O.the-row r (v ∷ []) → r ≡ scanOf (take n xs) i → ent 𝓤 (emp 𝓤) (Post v)
+      exits : (r : Outputs) (v : Val) → Is O.the-row r (v ∷ []) → r ≡ scanIn (take n xs) i → ent 𝓤 (emp 𝓤) (Post v)
       exits r v g e =
           qed W [] ∵ suffices ! _ (ends-at 𝓤 H A scan-table.ended stayed (scan-table.clauses 𝓤 H A mem run) W ((tt, tt, tt, (xs, (n, (i, tt))), at), tt) v r
           (tt, (tt, (tt, tt))) (tt, (tt, (tt, tt)))) $ says ! e $
@@ -168,8 +168,8 @@ module _ {M : Type 1} (𝓤 : URA M) (H : Heap 𝓤) (A : Atoms 𝓤) (W : Given
       long : (m : ℕ) → m ≡ atMost128 n → m ≤ length xs
       long m e = rw (gx .1 .0 .1, e) (min-le-right n 128)
 
-      same : (m : ℕ) (r : Outputs) → m ≡ atMost128 n → r ≡ scanOf (take m xs) i → r ≡ scanOf (take n xs) i
-      same m r e f = f ∙ ap (λ (ys : List Row). scanOf ys i) (ap (λ (k : ℕ). take k xs) e ∙ take-at-most n xs (gx .1 .0 .1))
+      same : (m : ℕ) (r : Outputs) → m ≡ atMost128 n → r ≡ scanIn (take m xs) i → r ≡ scanIn (take n xs) i
+      same m r e f = f ∙ ap (λ (ys : List Packed). scanIn ys i) (ap (λ (k : ℕ). take k xs) e ∙ take-at-most n xs (gx .1 .0 .1))
 
       walk : (𝓣 : Tables 𝓤 H) → Triple 𝓤 (𝓣 .C #rows·at-most-128) Most → Triple 𝓤 (𝓣 .C #rows·scan) Scan
           → ent 𝓤 (onEntry 𝓤 H A scan-table.signature tt tt (xs, (n, (i, tt))) at)
@@ -207,8 +207,8 @@ module _ {M : Type 1} (𝓤 : URA M) (H : Heap 𝓤) (A : Atoms 𝓤) (W : Given
           use1 W (later (some (λ (r : Outputs). ((‵ (flft (α ∷ []) fullShare) ⊛ ‵ ftrue) ⊛ ‵ (O.the-row .own r (v ∷ []))) ⊛ raw
           (ensured 𝓤 H A scan.ended (scan.clauses 𝓤 H A mem run) (α ∷ [], tt) (part (α ∷ []) l₄ m γ, (i, tt)) tt r)))) (id⊢ 𝓤 _) $ await ! tt $
           pick ! (λ r.
-          split ! $ move ! (1 ∷ []) $ use1 W (raw (fact 𝓤 (r ≡ scanOf (take m xs) i))) (scan-of (α ∷ []) l₄ m γ r) $
-          heard ! (r ≡ scanOf (take m xs) i) (λ e. split ! $ move ! (1 ∷ []) $
+          split ! $ move ! (1 ∷ []) $ use1 W (raw (fact 𝓤 (r ≡ scanIn (take m xs) i))) (scan-of (α ∷ []) l₄ m γ r) $
+          heard ! (r ≡ scanIn (take m xs) i) (λ e. split ! $ move ! (1 ∷ []) $
           facts ! O.the-row (Is O.the-row) (shows 𝓤 H A O.the-row) r (v ∷ []) (λ is. split ! $
           -- [the token; true; the way back; _7; …; _6; …; _5; …; (_4) …; _3; …; _2; …; _1; …; room for _0; …]
           land ! (from ! (stop !)) (init ! 16 refl (LL.lawful O.the-type O′.the-laws 𝓤 H A W .typed r (v ∷ []) is .0)) $
