@@ -21,9 +21,8 @@ use Rattle.code.specs.declared.Fields.{Fields}
 use Rattle.code.specs.declared.Operands.{Operands}
 use Rattle.code.proofs.Digits.{row-at, class-of-row}
 use Rattle.code.proofs.Tops.{cycles-of-code}
-use Rattle.code.proofs.Words.{apart-as}
 use Rattle.checks.specs.Asked.{refusalBy, waitingBy}
-use Rattle.checks.specs.Checks.{designatorRefusalOf, wordRefusalOf, waitingOf}
+use Rattle.checks.specs.Checks.{wordRefusalOf, waitingOf}
 use Rattle.checks.proofs.Laws.{refusal-by-row, waiting-by-row, no-waiting}
 use Rattle.control.specs.Next.{inputsOf}
 use Rattle.numbers.specs.Numbers.{wordAt}

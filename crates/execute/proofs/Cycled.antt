@@ -12,7 +12,7 @@ use Rattle.alu.specs.declared.Flags.{Flags}
 use Rattle.choose.specs.Ranged.{pick, ranged}
 use Rattle.choose.proofs.Table.{below}
 use Rattle.choose.proofs.Tests.{equal-tests}
-use Rattle.cycles.specs.Cycles.{stepOf, oneCycleOf, oneThenOther, twoCyclesOf}
+use Rattle.cycles.specs.Cycles.{stepOf, oneCycleOf, twoCyclesOf}
 use Rattle.plan.specs.Plan.{planOf}
 use Rattle.state.specs.File.{Leaves, leaves, highOf}
 use Rattle.execute.specs.Execute.{designators, operationOf}

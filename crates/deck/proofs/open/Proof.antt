@@ -1,6 +1,5 @@
 -- `deck::open` meets its contract: by the deck's own layout, the refusal is the deck's. Assumes nothing.
-use mathlib.Core.Path.{_∙_, ap}
-use Rattle.deck.specs.Layouts.{refusalBy}
+use mathlib.Core.Path.{_∙_}
 use Rattle.deck.proofs.Layouts.{refusal-by-layout}
 use borrow.Author.Needs.{needs}
 use Rattle.deck.proofs.open.Statement.{statement}
