@@ -1,7 +1,7 @@
 -- By THE table of top bytes and rows in range, an attempt by the tables that are handed to it is the attempt of 01.
 -- Assumes nothing.
 use Prim.Native.Nat.{ℕ, _<_, _/_, _%_}
-use mathlib.Core.Path.{_≡_, _∙_, ap, refl}
+use mathlib.Core.Path.{_≡_, _∙_, ap, refl, subst}
 use mathlib.Core.Bool.{Bool, true, false, not, _||_, false≢true}
 use mathlib.Core.List.{List}
 use native.Mathlib.Omega.{arith}
@@ -24,7 +24,6 @@ use Rattle.code.proofs.Tops.{cycles-of-code}
 use Rattle.checks.specs.Asked.{refusalBy, waitingBy}
 use Rattle.checks.specs.Checks.{wordRefusalOf, waitingOf}
 use Rattle.checks.proofs.Laws.{refusal-by-row, waiting-by-row, no-waiting}
-use Rattle.control.specs.Next.{inputsOf}
 use Rattle.numbers.specs.Numbers.{wordAt}
 use Rattle.rows.specs.Packing.{packedRows, scanIn}
 use Rattle.rows.specs.Range.{rowsInRange}
@@ -32,7 +31,6 @@ use Rattle.rows.specs.Scan.{scanOf, none}
 use Rattle.rows.proofs.Packing.{scan-packed}
 use Rattle.rows.specs.declared.Outputs.{Outputs}
 use Rattle.rows.specs.declared.Inputs.{Inputs}
-use Rattle.rows.specs.declared.Packed.{Packed}
 use Rattle.rows.specs.declared.Row.{Row}
 use Rattle.state.specs.File.{Leaves}
 use Rattle.state.specs.declared.Core.{Core}
@@ -41,7 +39,7 @@ use Rattle.attempt.specs.declared.Outcome.{Outcome}
 use Rattle.attempt.specs.Effect.{effectOf}
 use Rattle.attempt.specs.Attempt.{whenRefused, whenIdle, resetOf, modifiedOf}
 use Rattle.attempt.specs.Attempt.{executedOf, checkedOf, takenOf, fetchedOf, attemptedOf, outputsOf, attemptOf}
-use Rattle.attempt.specs.Lent.{doneBy, twoBy, checkedTwoBy, checkedKind, checkedBy, takenBy, wordBy, fetchedBy, attemptBy}
+use Rattle.attempt.specs.Lent.{doneBy, twoBy, checkedTwoBy, checkedKind, checkedBy, takenBy, wordBy, fetchedBy, inputsBy, attemptBy}
 
 -- what is no register code is below 70
 abbrev early-test : ℕ → Bool
@@ -108,24 +106,20 @@ module _ (w : ℕ) (o : Outputs) (xs : List ℕ) (k : Core) (s : Sample) where
       (ap (λ (c : Class). takenBy (apartAs c w) (rowOf (topOf w)) o xs k s) (class-of-row (topOf w)) ∙ as-own)
 
 module _ (ws : List ℕ) (rs : List Row) (xs : List ℕ) (k : Core) (s : Sample) (h : rowsInRange rs ≡ true) where
-  -- the word's own bit 17
-  abbrev seen : Inputs
-  seen = inputsOf k (eqb (wordAt ws (k .address .lc) / 0x2_0000 % 2) 1) s
-
   abbrev word : ℕ
   word = modifiedOf (wordAt ws (k .address .lc)) (k .latches)
 
-  found : (t : Bool)
-      → pick t (wordBy entries word (scanIn (packedRows rs) seen) xs k s) (whenRefused xs k 5)
-      ≡ pick t (takenOf (apartOf word) (pick t (scanOf rs seen) none) xs k s) (whenRefused xs k 5)
-  found true = rw (scan-packed rs seen h) (word-lent word (scanOf rs seen) xs k s)
-  found false = refl
+  found : (t : Bool) (i : Inputs)
+      → pick t (wordBy entries word (scanIn (packedRows rs) i) xs k s) (whenRefused xs k 5)
+      ≡ pick t (takenOf (apartOf word) (pick t (scanOf rs i) none) xs k s) (whenRefused xs k 5)
+  found true i = rw (scan-packed rs i h) (word-lent word (scanOf rs i) xs k s)
+  found false i = refl
 
-  fetched-lent : fetchedBy entries ws (packedRows rs) xs k s ≡ fetchedOf ws (outputsOf ws rs k s) xs k s
-  unfolding fetchedBy fetchedOf outputsOf
-  fetched-lent = found (ltb (k .address .lc) (length ws / 4))
+  fetched-lent : fetchedBy entries ws (scanIn (packedRows rs) (inputsBy ws k s)) xs k s ≡ fetchedOf ws (outputsOf ws rs k s) xs k s
+  unfolding fetchedBy fetchedOf outputsOf inputsBy
+  fetched-lent = found (ltb (k .address .lc) (length ws / 4)) (inputsBy ws k s)
 
-  pub attempt-lent : attemptBy entries ws (packedRows rs) xs k s ≡ attemptOf ws rs xs k s
+  pub attempt-lent : attemptBy entries ws (scanIn (packedRows rs) (inputsBy ws k s)) xs k s ≡ attemptOf ws rs xs k s
   unfolding attemptBy attemptOf attemptedOf
   attempt-lent = rw fetched-lent
 
@@ -166,10 +160,19 @@ module _ (xs : List ℕ) (k : Core) (s : Sample) where
   sample-keeps false true e keeps h = keeps h
   sample-keeps false false e keeps h = refl
 
-  pub refused-keeps : (codes ws : List ℕ) (ps : List Packed) → Keeps (attemptBy codes ws ps xs k s)
-  unfolding attemptBy fetchedBy
-  refused-keeps codes ws ps =
-      let stored = wordAt ws (k .address .lc) in
-      let o = scanIn ps (inputsOf k (eqb (stored / 0x2_0000 % 2) 1) s) in
-      sample-keeps (s .reset) (s .compute) (fetchedBy codes ws ps xs k s)
-      (fetched-keeps (ltb (k .address .lc) (length ws / 4)) codes (modifiedOf stored (k .latches)) o)
+  module _ (codes ws : List ℕ) (o : Outputs) where
+    abbrev taken : Leaves Outcome
+    taken = wordBy codes (modifiedOf (wordAt ws (k .address .lc)) (k .latches)) o xs k s
+
+    fetched-as : pick (ltb (k .address .lc) (length ws / 4)) taken (whenRefused xs k 5) ≡ fetchedBy codes ws o xs k s
+    unfolding fetchedBy
+    fetched-as = refl
+
+    attempt-as : pick (s .reset) (whenIdle xs (resetOf k) 11) (pick (s .compute) (fetchedBy codes ws o xs k s) (whenIdle xs k 12)) ≡ attemptBy codes ws o xs k s
+    unfolding attemptBy
+    attempt-as = refl
+
+    pub refused-keeps : Keeps (attemptBy codes ws o xs k s)
+    refused-keeps =
+        let fetched = fetched-keeps (ltb (k .address .lc) (length ws / 4)) codes (modifiedOf (wordAt ws (k .address .lc)) (k .latches)) o in
+        subst Keeps attempt-as (sample-keeps (s .reset) (s .compute) (fetchedBy codes ws o xs k s) (subst Keeps fetched-as fetched))

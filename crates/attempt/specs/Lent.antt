@@ -1,5 +1,5 @@
--- One attempt by the tables that are handed to it, whatever they hold: numbers for the 256 top bytes, and packed rows. This is the code's way only;
--- `attempt-lent` says that by THE table and by rows in range it is the attempt of 01.
+-- One attempt by what is handed to it, whatever that is: numbers for the 256 top bytes, and what the rows put out. This is the code's way only;
+-- `attempt-lent` says that by THE table and by the outputs of rows in range it is the attempt of 01.
 use Prim.Native.Nat.{ℕ, _/_, _%_}
 use mathlib.Core.List.{List}
 use lib.Dec.{eqb, ltb}
@@ -14,9 +14,8 @@ use Rattle.code.specs.declared.Operands.{Operands}
 use Rattle.checks.specs.Asked.{refusalBy, waitingBy}
 use Rattle.control.specs.Next.{inputsOf, addressAfter}
 use Rattle.numbers.specs.Numbers.{wordAt}
-use Rattle.rows.specs.Packing.{scanIn}
+use Rattle.rows.specs.declared.Inputs.{Inputs}
 use Rattle.rows.specs.declared.Outputs.{Outputs}
-use Rattle.rows.specs.declared.Packed.{Packed}
 use Rattle.state.specs.File.{Leaves, leaves}
 use Rattle.state.specs.declared.Core.{Core}
 use Rattle.state.specs.declared.Sample.{Sample}
@@ -72,14 +71,17 @@ wordBy codes word o xs k sample =
     let row = rowOfEntry (getD codes (topOf word) 0) in
     takenBy (apartAs (row .class) word) row o xs k sample
 
-unfoldable pub fetchedBy : List ℕ → List ℕ → List Packed → List ℕ → Core → Sample → Leaves Outcome
-fetchedBy codes ws ps xs k sample =
-    let stored = wordAt ws (k .address .lc) in
+unfoldable pub fetchedBy : List ℕ → List ℕ → Outputs → List ℕ → Core → Sample → Leaves Outcome
+fetchedBy codes ws o xs k sample =
     pick (ltb (k .address .lc) (length ws / 4))
-    (wordBy codes (modifiedOf stored (k .latches)) (scanIn ps (inputsOf k (eqb (stored / 0x2_0000 % 2) 1) sample)) xs k sample)
+    (wordBy codes (modifiedOf (wordAt ws (k .address .lc)) (k .latches)) o xs k sample)
     (whenRefused xs k 5)
 
-unfoldable pub attemptBy : List ℕ → List ℕ → List Packed → List ℕ → Core → Sample → Leaves Outcome
-attemptBy codes ws ps xs k sample =
+unfoldable pub attemptBy : List ℕ → List ℕ → Outputs → List ℕ → Core → Sample → Leaves Outcome
+attemptBy codes ws o xs k sample =
     pick (sample .reset) (whenIdle xs (resetOf k) 11)
-    (pick (sample .compute) (fetchedBy codes ws ps xs k sample) (whenIdle xs k 12))
+    (pick (sample .compute) (fetchedBy codes ws o xs k sample) (whenIdle xs k 12))
+
+-- what the rows are matched against before the attempt is made, with bit 17 of the word at LC; where there is no word, none
+unfoldable pub inputsBy : List ℕ → Core → Sample → Inputs
+inputsBy ws k sample = inputsOf k (eqb (wordAt ws (k .address .lc) / 0x2_0000 % 2) 1) sample

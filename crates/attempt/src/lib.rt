@@ -5,8 +5,8 @@ use code::CodeRow;
 use code::Fields;
 use code::Operands;
 use control::Way;
+use rows::Inputs;
 use rows::Outputs;
-use rows::Packed;
 use state::Address;
 use state::Bus;
 use state::Core;
@@ -14,12 +14,9 @@ use state::Latches;
 use state::Sample;
 ghost use mathlib.Core.Path.{_≡_};
 ghost use Prim.Native.Nat.{_≤_};
-ghost use lib.ListN.{take};
 ghost use Rattle.attempt.specs.Effect.{jumpedOf, literalEffect, registerEffect};
 ghost use Rattle.attempt.specs.Attempt.{outcomeOf, resetOf, modifiedOf};
-ghost use Rattle.attempt.specs.Lent.{doneBy, twoBy, checkedTwoBy, checkedBy, fetchedBy, attemptBy};
-ghost use Rattle.control.specs.Next.{inputsOf};
-ghost use Rattle.rows.specs.Packing.{scanIn};
+ghost use Rattle.attempt.specs.Lent.{doneBy, twoBy, checkedTwoBy, checkedBy, fetchedBy, inputsBy, attemptBy};
 ghost use Rattle.state.specs.File.{leaves};
 
 // What an executed instruction does, but for the next address.
@@ -275,12 +272,12 @@ fn checked_two(
 {
     let number = checks::refusal(row, fields.code, b, a);
     if number != 0 {
-        return outcome_of(core, 0, 0, number);
+        outcome_of(core, 0, 0, number)
+    } else if checks::waiting(row, fields.code, sample) {
+        outcome_of(core, control::placed(10, 0), 1, 0)
+    } else {
+        two(row, file, core, fields, b, a, sample, o)
     }
-    if checks::waiting(row, fields.code, sample) {
-        return outcome_of(core, control::placed(10, 0), 1, 0);
-    }
-    two(row, file, core, fields, b, a, sample, o)
 }
 
 // A listed word: a jump or a literal is executed at once.
@@ -341,27 +338,24 @@ fn modified(word: u32, l: Latches) -> u32
     word
 }
 
-// What the first n rows of the table put out for a word with this bit 17. Without rows nothing is looked at.
-fn outputs(table: [Packed; 128], n: usize, core: Core, rni: bool, sample: Sample) -> Outputs
-    ensures { λ r. ⌜ r ≡ scanIn (take n table) (inputsOf core rni sample) ⌝ }
+// What rows are matched against, with bit 17 of the word at LC.
+pub fn inputs(words: &[u8], core: Core, sample: Sample) -> Inputs
+    ensures { λ r. ⌜ r ≡ inputsBy (now (words .entry)) core sample ⌝ }
 {
-    if n == 0 {
-        return rows::none();
-    }
-    rows::scan_table(table, n, control::inputs(core, rni, sample))
+    let stored = numbers::quad_at(words, core.address.lc as usize * 4);
+    control::inputs(core, stored / 0x2_0000 % 2 == 1, sample)
 }
 
 // With RESET low and COMPUTE high: the word at LC is taken, the modification goes in, and the row of its top byte is read.
 fn fetched(
     codes: &[u32; 256],
     words: &[u8],
-    table: [Packed; 128],
-    n: usize,
+    o: Outputs,
     file: &mut [u8; 26],
     core: Core,
     sample: Sample,
 ) -> Outcome
-    ensures { λ r. ⌜ leaves (now (file .exit)) r ≡ fetchedBy (now (codes .entry)) (now (words .entry)) (take n table) (now (file .entry)) core sample ⌝ }
+    ensures { λ r. ⌜ leaves (now (file .exit)) r ≡ fetchedBy (now (codes .entry)) (now (words .entry)) o (now (file .entry)) core sample ⌝ }
 {
     let at = core.address.lc as usize;
     if words.len() / 4 <= at {
@@ -373,7 +367,6 @@ fn fetched(
         words[at * 4 + 2],
         words[at * 4 + 3],
     );
-    let o = outputs(table, n, core, stored / 0x2_0000 % 2 == 1, sample);
     let l = core.latches;
     let word = modified(stored, l);
     let row = code::row_in(codes, (word / 0x100 % 0x100) as u8);
@@ -386,23 +379,22 @@ fn fetched(
     }
 }
 
-// By the table of top bytes that is lent and the first n of the translation rows, packed.
+// By the table of top bytes that is lent, and by what the translation rows put out.
 pub fn attempt(
     codes: &[u32; 256],
     words: &[u8],
-    table: [Packed; 128],
-    n: usize,
+    o: Outputs,
     file: &mut [u8; 26],
     core: Core,
     sample: Sample,
 ) -> Outcome
-    ensures { λ r. ⌜ leaves (now (file .exit)) r ≡ attemptBy (now (codes .entry)) (now (words .entry)) (take n table) (now (file .entry)) core sample ⌝ }
+    ensures { λ r. ⌜ leaves (now (file .exit)) r ≡ attemptBy (now (codes .entry)) (now (words .entry)) o (now (file .entry)) core sample ⌝ }
 {
     if sample.reset {
         return outcome_of(reset(core), control::placed(11, 0), 1, 0);
     }
     if sample.compute {
-        return fetched(codes, words, table, n, file, core, sample);
+        return fetched(codes, words, o, file, core, sample);
     }
     outcome_of(core, control::placed(12, 0), 1, 0)
 }

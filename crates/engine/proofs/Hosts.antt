@@ -1,10 +1,10 @@
 -- Laws of the host's entry: what an accepted deck gives the run, and what comes back.
 -- Assumes nothing.
 use Prim.Native.Nat.{ℕ, _*_, _/_, _≤_}
-use mathlib.Core.Path.{_≡_, sym, ap, _∙_}
+use mathlib.Core.Path.{_≡_, ap, _∙_}
 use mathlib.Core.List.{List}
 use native.Mathlib.Omega.{arith}
-use lib.ListN.{length, take}
+use lib.ListN.{length}
 use borrow.Author.Tests.{eq-eqb, ne-eqb}
 use Rattle.attempt.proofs.Lent.{attempt-lent}
 use Rattle.code.specs.Entries.{entries}
@@ -16,14 +16,13 @@ use Rattle.deck.proofs.Layouts.{sections-by-layout}
 use Rattle.deck.proofs.Laws.{accepted, rows-in-range, samples-few}
 use Rattle.rows.specs.Section.{rowsOf}
 use Rattle.rows.specs.Packing.{packedRows}
-use Rattle.rows.specs.Table.{tableOf, wholeRows}
-use Rattle.rows.specs.declared.Packed.{Packed}
+use Rattle.rows.specs.Table.{wholeRows}
 use Rattle.rows.proofs.Laws.{table-rows}
 use Rattle.state.specs.declared.Core.{Core}
 use Rattle.state.specs.declared.Sample.{Sample}
 use Rattle.state_bytes.specs.Bytes.{storedOf, Loaded}
 use Rattle.engine.specs.Run.{World, world, runFrom, samplesFrom}
-use Rattle.engine.specs.RunEnds.{runBy}
+use Rattle.engine.specs.RunEnds.{lentRows, runBy}
 use Rattle.engine.proofs.Loop.{run-as}
 use Rattle.engine.specs.Host.{hosted, reported, deckRun, hostOf}
 
@@ -43,13 +42,11 @@ module _ (deck : List ℕ) (requests buffer : ℕ) (h : deckRefusalOf deck reque
   parts l e = rw e (sections-by-layout deck (accepted deck requests buffer h .whole))
 
   -- the table's rows are those of the section, packed
-  pub loads : take (length (rowsPart deck) / 16) (tableOf (rowsPart deck)) ≡ packedRows (rowsOf (rowsPart deck) (length (rowsPart deck) / 16))
+  pub loads : lentRows (rowsPart deck) ≡ packedRows (rowsOf (rowsPart deck) (length (rowsPart deck) / 16))
   loads =
       let few : wholeRows (rowsPart deck) ≡ length (rowsPart deck) / 16 =
       omega (arith, rows-in-range (rowsPart deck) (accepted deck requests buffer h .rows) .0) in
-      sym (ap (λ (n : ℕ). take n (tableOf (rowsPart deck))) few)
-      ∙ table-rows (rowsPart deck)
-      ∙ ap (λ (n : ℕ). packedRows (rowsOf (rowsPart deck) n)) few
+      table-rows (rowsPart deck) ∙ ap (λ (n : ℕ). packedRows (rowsOf (rowsPart deck) n)) few
 
 module _ (deck requests state : List ℕ) where
   pub refuses : (deckRefusalOf deck (length requests) (length state) ≡ 0 → ⊥)
@@ -74,9 +71,9 @@ module _ (deck requests state : List ℕ) where
 
   -- the run over the parts that were handed back is the deck's run
   pub same-run : deckRefusalOf deck (length requests) (length state) ≡ 0
-      → (codes words samples part xs : List ℕ) (table : List Packed) (k : Core)
-      → codes ≡ entries → words ≡ wordsPart deck → samples ≡ samplesPart deck → part ≡ rowsPart deck → table ≡ tableOf part → Loaded (statePart deck) k xs
-      → runBy codes words (take (length part / 16) table) (samplesFrom samples 0 (length samples / 4)) (world xs k 0 0 0 requests) ≡ deckRun deck requests
+      → (codes words samples part xs : List ℕ) (k : Core)
+      → codes ≡ entries → words ≡ wordsPart deck → samples ≡ samplesPart deck → part ≡ rowsPart deck → Loaded (statePart deck) k xs
+      → runBy codes words (lentRows part) (samplesFrom samples 0 (length samples / 4)) (world xs k 0 0 0 requests) ≡ deckRun deck requests
   unfolding deckRun
-  same-run h codes words samples part xs table k ec ew es ep et l =
-      rw (ec, ew, es, et, ep, l .core, l .file, loads deck (length requests) (length state) h) (own-rows h _ _)
+  same-run h codes words samples part xs k ec ew es ep l =
+      rw (ec, ew, es, ep, l .core, l .file, loads deck (length requests) (length state) h) (own-rows h _ _)

@@ -1,3 +1,6 @@
+mod Again
+mod Callees
+mod Calls
 pub mod Loop
 pub mod Places
 pub mod Runs

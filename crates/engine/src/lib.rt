@@ -1,13 +1,14 @@
 // The run, and the bench host's entry.
-use rows::Packed;
+use rows::Inputs;
+use rows::Outputs;
 use state::Core;
 use state::Sample;
 ghost use mathlib.Core.Path.{_≡_};
-ghost use Prim.Native.Nat.{_*_, _+_, _≤_};
-ghost use lib.ListN.{length, take};
+ghost use Prim.Native.Nat.{_*_, _+_, _<_, _≤_};
+ghost use lib.ListN.{length};
 ghost use Rattle.deck.specs.Elements.{sampleAt};
 ghost use Rattle.engine.specs.Run.{world, put4Of, samplesFrom};
-ghost use Rattle.engine.specs.RunEnds.{runEnd, worldOf, runBy};
+ghost use Rattle.engine.specs.RunEnds.{runEnd, worldOf, goingOf, inputsFor, nextBy, lentRows, runBy};
 ghost use Rattle.engine.specs.Host.{hosted, hostOf};
 
 fn put4(b: &mut [u8], at: usize, x: u32)
@@ -51,12 +52,63 @@ fn sample(samples: &[u8], i: usize) -> Sample
     )
 }
 
-// An attempt for each of n samples, until one is refused.
+// No attempt was refused, and of n samples one is left.
+fn going(at: RunEnd, n: usize) -> bool
+    ensures { λ r. ⌜ r ≡ goingOf at n ⌝ }
+{
+    (at.answer == 0) & (at.attempts < n)
+}
+
+// What m rows are matched against in the next attempt. Without rows nothing is looked at.
+fn inputs(words: &[u8], samples: &[u8], at: RunEnd, m: usize) -> Inputs
+    requires { ⌜ at .attempts * 4 + 4 ≤ length (now samples) ⌝ }
+    ensures { λ r. ⌜ r ≡ inputsFor m (now (words .entry)) (at .core) (sampleAt (now (samples .entry)) (at .attempts)) ⌝ }
+{
+    if m == 0 {
+        return Inputs {
+            lc: 0,
+            rni: 0,
+            tr: 0,
+            tsr: 0,
+            interrupts: 0,
+        };
+    }
+    let core = at.core;
+    attempt::inputs(words, core, sample(samples, at.attempts))
+}
+
+// One more attempt, and its place.
+fn attempted(
+    codes: &[u32; 256],
+    words: &[u8],
+    samples: &[u8],
+    o: Outputs,
+    requests: &mut [u8],
+    file: &mut [u8; 26],
+    at: RunEnd,
+) -> RunEnd
+    requires { ⌜ (at .attempts < 65535) × (at .microcycles ≤ 255 * at .attempts) × (at .attempts * 4 + 4 ≤ length (now samples)) × (at .attempts * 4 + 4 ≤ length (now requests)) ⌝ }
+    ensures counted { λ r. ⌜ r .microcycles ≤ 255 * r .attempts ⌝ }
+    ensures next { λ r. ⌜ worldOf r (now (file .exit)) (now (requests .exit)) ≡ nextBy (now (codes .entry)) (now (words .entry)) o (sampleAt (now (samples .entry)) (at .attempts)) (worldOf at (now (file .entry)) (now (requests .entry))) ⌝ }
+{
+    let i = at.attempts;
+    let spent = at.microcycles;
+    let core = at.core;
+    let made = attempt::attempt(codes, words, o, file, core, sample(samples, i));
+    let answer = made.refusal;
+    if answer != 0 {
+        return run_end(core, answer, i, spent);
+    }
+    put4(requests, i * 4, made.request);
+    let after = made.core;
+    run_end(after, 0, i + 1, spent + made.cycles as u32)
+}
+
+// An attempt for each of n samples, until one is refused. The rows are made a table once, and its whole rows are lent to each attempt.
 fn attempts(
     codes: &[u32; 256],
     words: &[u8],
-    table: [Packed; 128],
-    m: usize,
+    part: &[u8],
     samples: &[u8],
     requests: &mut [u8],
     file: &mut [u8; 26],
@@ -65,24 +117,17 @@ fn attempts(
 ) -> RunEnd
     requires { ⌜ (n ≤ 65535) × (n * 4 ≤ length (now requests)) × (n * 4 ≤ length (now samples)) ⌝ }
     ensures short { λ r. ⌜ r .attempts ≤ n ⌝ }
-    ensures whole { λ r. ⌜ worldOf r (now (file .exit)) (now (requests .exit)) ≡ runBy (now (codes .entry)) (now (words .entry)) (take m table) (samplesFrom (now (samples .entry)) 0 n) (world (now (file .entry)) first 0 0 0 (now (requests .entry))) ⌝ }
+    ensures whole { λ r. ⌜ worldOf r (now (file .exit)) (now (requests .exit)) ≡ runBy (now (codes .entry)) (now (words .entry)) (lentRows (now (part .entry))) (samplesFrom (now (samples .entry)) 0 n) (world (now (file .entry)) first 0 0 0 (now (requests .entry))) ⌝ }
 {
-    let mut core = first;
-    let mut microcycles: u32 = 0;
-    let mut i = 0;
-    while i < n {
-        let s = sample(samples, i);
-        let o = attempt::attempt(codes, words, table, m, file, core, s);
-        let answer = o.refusal;
-        if answer != 0 {
-            return run_end(core, answer, i, microcycles);
-        }
-        put4(requests, i * 4, o.request);
-        microcycles += o.cycles as u32;
-        core = o.core;
-        i += 1;
+    let table = rows::load(part);
+    let m = rows::whole(part);
+    let mut at = run_end(first, 0, 0, 0);
+    while going(at, n) {
+        let i = inputs(words, samples, at, m);
+        let o = rows::scan(&table[..m], i);
+        at = attempted(codes, words, samples, o, requests, file, at);
     }
-    run_end(core, 0, i, microcycles)
+    at
 }
 
 #[repr(C)]
@@ -110,15 +155,12 @@ pub extern "C" fn run(deck: &[u8], requests: &mut [u8], state: &mut [u8]) -> Rep
     let core = state_bytes::load(deck::state(deck, l), &mut file);
     let codes = code::rows();
     let part = deck::rows(deck, l);
-    let table = rows::load(part);
-    let m = part.len() / 16;
     let samples = deck::samples(deck, l);
     let n = samples.len() / 4;
     let ran = attempts(
         &codes,
         deck::words(deck, l),
-        table,
-        m,
+        part,
         samples,
         requests,
         &mut file,

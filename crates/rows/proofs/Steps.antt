@@ -1,17 +1,16 @@
 -- The steps of the loops of `scan` and `load`, one row more and none left, and a row past the end, by the laws of lists. Assumes nothing.
-use mathlib.Core.Path.{_≡_, refl, sym, ap, _∙_}
+use mathlib.Core.Path.{_≡_, refl, sym, _∙_}
 use mathlib.Core.List.{List, [], _∷_, _++_, append-assoc}
-use Prim.Native.Nat.{ℕ, zero, suc, min, _+_, _-_, _*_, _<_, _≤_}
-use native.Mathlib.Nat.{zero-min, suc-min-suc}
+use Prim.Native.Nat.{ℕ, suc, _+_, _-_, _*_, _<_, _≤_}
 use native.Mathlib.Numerals.{add-one}
 use native.Mathlib.Omega.{arith}
-use lib.Seq.{drop-cons, take-nil, set-at}
-use lib.ListN.{length, getD, set, replicate, take, drop, length-append, length-replicate, drop-of-length-le, List·getD-eq-default}
+use lib.Seq.{drop-cons, set-at}
+use lib.ListN.{length, getD, set, replicate, drop, length-append, length-replicate, drop-of-length-le, List·getD-eq-default}
 use Rattle.rows.specs.declared.Row.{Row}
 use Rattle.rows.specs.declared.Packed.{Packed}
 use Rattle.rows.specs.Packing.{packedOf, packedRows, mergedIn, scannedIn}
 use Rattle.rows.specs.Section.{rowFrom, rowsOf}
-use Rattle.rows.specs.Table.{emptyRow, atMost128, filledTable}
+use Rattle.rows.specs.Table.{emptyRow, filledTable}
 use Rattle.rows.proofs.Laws.{packed-length}
 
 -- the row at k, as `scan` reads it
@@ -19,10 +18,9 @@ abbrev pub rowAt : List Packed → ℕ → Packed
 rowAt ps k = getD ps k emptyRow
 
 -- a step of `scan`: from what the row at k made of o, the rows that are left give the same
-pub scan-step : (ps : List Packed) (k j o r key : ℕ) → j ≡ k + 1 → k < length ps → r ≡ mergedIn o (rowAt ps k) key
-    → scannedIn r (drop j ps) key ≡ scannedIn o (drop k ps) key
+pub scan-step : (ps : List Packed) (k o key : ℕ) → k < length ps → scannedIn (mergedIn o (rowAt ps k) key) (drop (k + 1) ps) key ≡ scannedIn o (drop k ps) key
 unfolding scannedIn
-scan-step ps k j o r key q l e = rw (q, add-one, drop-cons ps k emptyRow l, e)
+scan-step ps k o key l = rw (add-one, drop-cons ps k emptyRow l)
 
 -- the end of `scan`: no row is left
 pub scan-end : (ps : List Packed) (k o key : ℕ) → length ps ≤ k → scannedIn o (drop k ps) key ≡ o
@@ -57,15 +55,6 @@ nothing-past s a l =
 
 pub row-past : (s : List ℕ) (a : ℕ) → length s ≤ a → rowFrom s (length s) ≡ rowFrom s a
 row-past s a l = nothing-past s (length s) (omega arith) ∙ sym (nothing-past s a l)
-
-take-min : (n : ℕ) (ps : List Packed) → take (min n (length ps)) ps ≡ take n ps
-take-min zero ps = rw zero-min
-take-min (suc n) [] = take-nil (min (suc n) 0)
-take-min (suc n) (p ∷ ps) = rw suc-min-suc (ap (λ (l : List Packed). p ∷ l) (take-min n ps))
-
--- a table has no more than 128 rows to lend
-pub take-at-most : (n : ℕ) (ps : List Packed) → length ps ≡ 128 → take (atMost128 n) ps ≡ take n ps
-take-at-most n ps e = rw (← e) (take-min n ps)
 
 -- the start of `load`: an empty table
 pub filled-none : (s : List ℕ) → replicate 128 emptyRow ≡ filledTable s 0

@@ -11,13 +11,9 @@ use Rattle.rows.specs.Section.{rowsOf}
 abbrev pub emptyRow : Packed
 emptyRow = record { mask = 0; value = 0; outputs = 0 }
 
--- "0 to 128 translation rows": a table has room for no more
-abbrev pub atMost128 : ℕ → ℕ
-atMost128 n = min n 128
-
--- how many whole rows of the section go into a table
+-- how many whole rows of the section go into a table: it has room for "0 to 128 translation rows"
 abbrev pub wholeRows : List ℕ → ℕ
-wholeRows s = atMost128 (length s / 16)
+wholeRows s = min (length s / 16) 128
 
 -- the first n rows, and empty rows up to 128
 unfoldable pub filledTable : List ℕ → ℕ → List Packed

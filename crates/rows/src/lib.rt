@@ -1,11 +1,11 @@
 // Translation rows: a rows section made a table, the range test of a row, and the outputs of all rows that match.
 ghost use mathlib.Core.Path.{_≡_};
 ghost use Prim.Native.Nat.{_≤_};
-ghost use lib.ListN.{length, take};
+ghost use lib.ListN.{length};
 ghost use Rattle.rows.specs.Scan.{none, lta, lra, ltsr};
 ghost use Rattle.rows.specs.Section.{rowFrom};
 ghost use Rattle.rows.specs.Packing.{sideBySide, keyOf, packedOf, matchedIn, mergedIn, outputsIn, scanIn};
-ghost use Rattle.rows.specs.Table.{atMost128, tableOf};
+ghost use Rattle.rows.specs.Table.{wholeRows, tableOf};
 ghost use Rattle.rows.specs.Range.{masksFit, outputsFit, valuesInMasks, rowInRange};
 
 // A row as its sixteen bytes give it, in their order.
@@ -128,7 +128,7 @@ fn unpacked(o: u32) -> Outputs
     }
 }
 
-// The outputs of all matching rows, ORed. The rows stay the caller's. Four at a time, which takes half as long for each.
+// The outputs of all matching rows, ORed. The rows stay the caller's.
 pub fn scan(rows: &[Packed], i: Inputs) -> Outputs
     ensures { λ r. ⌜ r ≡ scanIn (now (rows .entry)) i ⌝ }
 {
@@ -136,13 +136,6 @@ pub fn scan(rows: &[Packed], i: Inputs) -> Outputs
     let n = rows.len();
     let mut o: u32 = 0;
     let mut k = 0;
-    while k + 4 <= n {
-        o = merged(o, rows[k], key);
-        o = merged(o, rows[k + 1], key);
-        o = merged(o, rows[k + 2], key);
-        o = merged(o, rows[k + 3], key);
-        k = k + 4;
-    }
     while k < n {
         o = merged(o, rows[k], key);
         k = k + 1;
@@ -150,20 +143,12 @@ pub fn scan(rows: &[Packed], i: Inputs) -> Outputs
     unpacked(o)
 }
 
-// A table has 128 rows, so no more of them are filled or lent.
-fn at_most_128(n: usize) -> usize
-    ensures { λ r. ⌜ r ≡ atMost128 n ⌝ }
+// How many whole rows of a section a table holds.
+pub fn whole(s: &[u8]) -> usize
+    ensures { λ r. ⌜ r ≡ wholeRows (now (s .entry)) ⌝ }
 {
+    let n = s.len() / 16;
     if n < 128 { n } else { 128 }
-}
-
-// The first n rows of a table are lent to scan: all of them where n is over 128. The table comes by value, and is copied:
-// a caller that has no rows does better not to call.
-pub fn scan_table(table: [Packed; 128], n: usize, i: Inputs) -> Outputs
-    ensures { λ r. ⌜ r ≡ scanIn (take n table) i ⌝ }
-{
-    let m = at_most_128(n);
-    scan(&table[..m], i)
 }
 
 pub fn lta(o: Outputs) -> bool
@@ -258,7 +243,7 @@ pub fn load(s: &[u8]) -> [Packed; 128]
         outputs: 0,
     };
     let mut table = [empty; 128];
-    let n = at_most_128(s.len() / 16);
+    let n = whole(s);
     let mut filled = 0;
     while filled < n {
         table[filled] = pack(row_at(s, filled * 16));

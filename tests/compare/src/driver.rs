@@ -1,6 +1,7 @@
 //! A driver: compiled code in a process of its own, which answers calls one after the other.
 
 use std::io::{self, BufReader, BufWriter, Read, Write};
+use std::os::unix::process::CommandExt;
 use std::process::{Command, Stdio};
 use std::thread;
 
@@ -26,10 +27,11 @@ impl Driver {
     }
 
     /// Runs the calls in one process. When that dies, answers are missing from the call that killed
-    /// it on.
+    /// it on. An interrupt from the terminal does not reach it: an emulator may lose an answer by one.
     pub fn run<C: Asked>(&self, calls: &[C]) -> io::Result<Vec<C::Answer>> {
         let mut child = Command::new(&self.0[0])
             .args(&self.0[1..])
+            .process_group(0)
             .stdin(Stdio::piped())
             .stdout(Stdio::piped())
             .spawn()?;

@@ -35,9 +35,7 @@ unfolding checkedTwoBy
 checked-two-spec =
     tie.close
     (tie.spec
-    (search needs) (search needs)
+    (search needs) (search needs) (search needs) (search needs) (search needs) (search needs)
     (λ c. rw (← c .before .before .refusal .ensures, ne-eqb _ _ (c .before .if1 .taken), c .outcome-of .ensures))
-    (search needs) (search needs) (search needs)
     returns-2
-    (search needs)
     returns-3)

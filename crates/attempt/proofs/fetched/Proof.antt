@@ -1,5 +1,5 @@
 -- `attempt::fetched` meets its contract: no word, or the word taken apart by the row of its top byte.
-use mathlib.Core.Path.{_≡_, sym, _∙_}
+use mathlib.Core.Path.{_≡_, sym}
 use mathlib.Core.List.{List}
 use Prim.Native.Nat.{ℕ, _+_, _*_}
 use native.Mathlib.Omega.{arith}
@@ -24,15 +24,13 @@ returns-2 c =
     let taken = apart .before .before in
     let row = taken .before in
     let made = row .before in
-    let seen = made .before .before in
-    let read = seen .before in
+    let read = made .before .before in
     let inside = read .before .before .before .before .before in
     let a = inside .before .before .before .args in
     rw (
       lt-ltb _ _ (inside .if1 .left),
       word-read (a .words .now) (a .core .address .lc) _ (read .quad .ensures),
       ← made .modified .ensures,
-      ← seen .outputs .ensures,
       ← row .row-in .ensures,
       ← taken .taken-apart-as .ensures,
       apart .apart .given .1,
@@ -44,8 +42,7 @@ returns-3 c =
     let taken = c .before .before .before in
     let row = taken .before in
     let made = row .before in
-    let seen = made .before .before in
-    let read = seen .before in
+    let read = made .before .before in
     let inside = read .before .before .before .before .before in
     let a = inside .before .before .before .args in
     rw (
@@ -64,8 +61,7 @@ returns-4 c =
     let taken = c .before .before .before in
     let row = taken .before in
     let made = row .before in
-    let seen = made .before .before in
-    let read = seen .before in
+    let read = made .before .before in
     let inside = read .before .before .before .before .before in
     let a = inside .before .before .before .args in
     rw (
@@ -87,7 +83,7 @@ fetched-spec =
     (λ c. rw (le-ltb _ _ (c .before .if1 .taken), c .outcome-of .ensures))
     (search needs) (search needs) (search needs) (search needs) (search needs) (search needs) (search needs) (search needs)
     (search needs) (search needs) (search needs) (search needs) (search needs) (search needs) (search needs) (search needs)
-    (search needs) (search needs) (search needs) (search needs) (search needs) (search needs) (search needs)
+    (search needs) (search needs) (search needs) (search needs) (search needs) (search needs)
     returns-2
     returns-3
     returns-4)

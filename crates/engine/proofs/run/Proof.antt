@@ -18,7 +18,7 @@ returns c =
 attempts-requires : tie.Need-attempts-requires
 attempts-requires c κs =
     let sampled = c .before .before .before .before in
-    let let-in = sampled .before .before .before .before .before .before .before .before in
+    let let-in = sampled .before .before .before .before .before .before .before in
     let asked = let-in .before .before in
     let number = asked .«open» .ensures .0 in
     let accepted = sym number ∙ let-in .if1 .left in
@@ -26,11 +26,11 @@ attempts-requires c κs =
     let room = places _ _ _ accepted in
     rw (sampled .samples .ensures ∙ p .3) (room .0, room .1, omega arith)
 
-cast-t33 : tie.Need-cast-t33
-cast-t33 c =
+cast-t31 : tie.Need-cast-t31
+cast-t31 c =
     let ran = c .before .before .before .before .before .before .before .before .before .before in
     let sampled = ran .before .before .before .before .before in
-    let let-in = sampled .before .before .before .before .before .before .before .before in
+    let let-in = sampled .before .before .before .before .before .before .before in
     let asked = let-in .before .before in
     let number = asked .«open» .ensures .0 in
     let accepted = sym number ∙ let-in .if1 .left in
@@ -48,8 +48,7 @@ returns-2 c =
     let ran = stored .before .before .before .before .before .before in
     let words = ran .before .before .before in
     let sampled = words .before .before in
-    let table = sampled .before in
-    let part = table .before in
+    let part = sampled .before in
     let codes = part .before in
     let loaded = codes .before in
     let section = loaded .before .before in
@@ -62,10 +61,10 @@ returns-2 c =
     let state = rw (section .state .ensures ∙ p .2) at (loaded .load .ensures) in
     let run = ran .attempts in
     rw (stored .store .ensures)
-    (answers (a .deck .now) (a .requests .now) (a .state .now) accepted (worldOf (run .result) (run .last .1 .1 .1 .1 .1 .1 .0) (run .last .1 .1 .1 .1 .1 .0))
+    (answers (a .deck .now) (a .requests .now) (a .state .now) accepted (worldOf (run .result) (run .last .1 .1 .1 .1 .1 .0) (run .last .1 .1 .1 .1 .0))
     (run .ensures .1
-    ∙ same-run (a .deck .now) (a .requests .now) (a .state .now) accepted _ _ _ _ _ _ _
-    (codes .rows .ensures) (words .words .ensures ∙ p .0) (sampled .samples .ensures ∙ p .3) (part .rows2 .ensures ∙ p .1) (table .load2 .ensures) state))
+    ∙ same-run (a .deck .now) (a .requests .now) (a .state .now) accepted _ _ _ _ _ _
+    (codes .rows .ensures) (words .words .ensures ∙ p .0) (sampled .samples .ensures ∙ p .3) (part .rows2 .ensures ∙ p .1) state))
 
 pub run-spec : {M : Type 1} → statement M
 run-spec =
@@ -73,9 +72,9 @@ run-spec =
     (tie.spec
     (search needs) (search needs)
     returns
-    (search needs) (search needs) (search needs) (search needs) (search needs) (search needs) (search needs)
+    (search needs) (search needs) (search needs) (search needs) (search needs) (search needs)
     attempts-requires
     (search needs) (search needs)
-    cast-t33
+    cast-t31
     (search needs) (search needs)
     returns-2)

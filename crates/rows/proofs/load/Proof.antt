@@ -35,8 +35,8 @@ loop-again c =
 
 returns : tie.Need-returns Inv-loop μ-loop
 returns c =
-    let e : c .before .loop .filled ≡ c .before .before .at-most-128 .result = omega arith in
-    rw (c .before .loop .inv .1, e, c .before .before .at-most-128 .ensures)
+    let e : c .before .loop .filled ≡ c .before .before .whole .result = omega arith in
+    rw (c .before .loop .inv .1, e, c .before .before .whole .ensures)
 
 pub load-spec : {M : Type 1} → statement M
 load-spec =
