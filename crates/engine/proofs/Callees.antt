@@ -369,7 +369,8 @@ module _ {M : Type 1} (𝓤 : URA M) (H : Heap 𝓤) (A : Atoms 𝓤) (W : Given
 
         goes-ask : ent 𝓤 (All b f) (sep 𝓤 (Ask 𝓤 H A mem run .pre to-ask) (⋆ 𝓤 H A Kept))
         goes-ask =
-            qed W (‵ (flft κ₀ q₀) ∷ ‵ (flft κ₁ q₁) ∷ ‵ (flft κ₃ q₃) ∷ ‵ (flft κ₄ q₄) ∷ ‵ (flft κ₅ q₅) ∷ ‵ Codes ∷ ‵ Words ∷ ‵ Samples ∷ ‵ Requests ∷ ‵ File
+            qed W (‵ (flft κ₀ q₀) ∷ ‵ (flft κ₁ q₁) ∷ ‵ (flft κ₃ q₃) ∷ ‵ (flft κ₄ q₄) ∷ ‵ (flft κ₅ q₅)
+            ∷ ‵ Codes ∷ ‵ Words ∷ ‵ Samples ∷ ‵ Requests ∷ ‵ File
             ∷ []) ∵
             move ! (6 ∷ []) $ use1 W (‵ Words ⊛ ‵ Words) (shr-slice-copy 𝓤 H A W (named 1) κ₁ u8 .twice words (slice-vals words)) $ split ! $
             move ! (8 ∷ []) $ use1 W (‵ Samples ⊛ ‵ Samples) (shr-slice-copy 𝓤 H A W (named 2) κ₃ u8 .twice samples (slice-vals samples)) $ split ! $
@@ -417,12 +418,14 @@ module _ {M : Type 1} (𝓤 : URA M) (H : Heap 𝓤) (A : Atoms 𝓤) (W : Given
         way-file = LentAgain (Array u8 26) κ₅ β q₅ γ₅ b₅ o₅ (ν .1 .1) f
 
         abbrev pub Handed : SProp 𝓤
-        Handed = ⋆ 𝓤 H A (‵ (flft κ₀ q₀) ∷ ‵ (flft κ₁ q₁) ∷ ‵ (flft κ₃ q₃) ∷ ‵ (flft α fullShare) ∷ ‵ (flft β fullShare) ∷ ‵ Codes ∷ ‵ Words ∷ ‵ Samples
+        Handed = ⋆ 𝓤 H A (‵ (flft κ₀ q₀) ∷ ‵ (flft κ₁ q₁) ∷ ‵ (flft κ₃ q₃) ∷ ‵ (flft α fullShare)
+            ∷ ‵ (flft β fullShare) ∷ ‵ Codes ∷ ‵ Words ∷ ‵ Samples
             ∷ ‵ Requests′ ∷ ‵ File′ ∷ ‵ way-buffer ∷ ‵ way-file ∷ [])
 
       pub hands : ent 𝓤 (All b f) (H .⇛ (ex 𝓤 Handed))
       hands =
-          qed W (‵ (flft κ₀ q₀) ∷ ‵ (flft κ₁ q₁) ∷ ‵ (flft κ₃ q₃) ∷ ‵ (flft κ₄ q₄) ∷ ‵ (flft κ₅ q₅) ∷ ‵ Codes ∷ ‵ Words ∷ ‵ Samples ∷ ‵ Requests ∷ ‵ File
+          qed W (‵ (flft κ₀ q₀) ∷ ‵ (flft κ₁ q₁) ∷ ‵ (flft κ₃ q₃) ∷ ‵ (flft κ₄ q₄) ∷ ‵ (flft κ₅ q₅) ∷ ‵ Codes
+          ∷ ‵ Words ∷ ‵ Samples ∷ ‵ Requests ∷ ‵ File
           ∷ []) ∵
           updating ! $ lft-new ! tt (λ α₀. lft-new ! tt (λ β₀. move ! (10 ∷ 5 ∷ []) $
           use2 W (later (some (λ (γ : GName). ‵ (MutSlice (named 3) (α₀ ∷ []) u8 .own (buffer γ b) vs) ⊛ ‵ (again.Way u8 κ₄ (α₀ ∷ []) q₄ γ₄ b₄ o₄ vs b γ))))
@@ -455,11 +458,13 @@ module _ {M : Type 1} (𝓤 : URA M) (H : Heap 𝓤) (A : Atoms 𝓤) (W : Given
           tt,
         )
 
-        pre-attempted : ent 𝓤 (⋆ 𝓤 H A (‵ (flft κ₀ q₀) ∷ ‵ (flft κ₁ q₁) ∷ ‵ (flft κ₃ q₃) ∷ ‵ (flft (α ν) fullShare) ∷ ‵ (flft (β ν) fullShare) ∷ ‵ Codes
+        pre-attempted : ent 𝓤 (⋆ 𝓤 H A (‵ (flft κ₀ q₀) ∷ ‵ (flft κ₁ q₁) ∷ ‵ (flft κ₃ q₃)
+            ∷ ‵ (flft (α ν) fullShare) ∷ ‵ (flft (β ν) fullShare) ∷ ‵ Codes
             ∷ ‵ Words
             ∷ ‵ Samples ∷ ‵ (Requests′ ν) ∷ ‵ (File′ ν) ∷ [])) (Attempted 𝓤 H A mem run .pre to-attempted)
         pre-attempted =
-            qed W (‵ (flft κ₀ q₀) ∷ ‵ (flft κ₁ q₁) ∷ ‵ (flft κ₃ q₃) ∷ ‵ (flft (α ν) fullShare) ∷ ‵ (flft (β ν) fullShare) ∷ ‵ Codes ∷ ‵ Words ∷ ‵ Samples
+            qed W (‵ (flft κ₀ q₀) ∷ ‵ (flft κ₁ q₁) ∷ ‵ (flft κ₃ q₃) ∷ ‵ (flft (α ν) fullShare)
+            ∷ ‵ (flft (β ν) fullShare) ∷ ‵ Codes ∷ ‵ Words ∷ ‵ Samples
             ∷ ‵ (Requests′ ν) ∷ ‵ (File′ ν) ∷ []) ∵ says ! (few, counted, within, place) $ nothing ! $
             owned ! E.the-row (Is E.the-row) (LL.makes E.the-type E′.the-plain 𝓤 H A) at (eval at ∷ []) g $ fjoin ! $ move ! (10 ∷ 0 ∷ []) $ fjoin ! $
             move ! (9 ∷ 0 ∷ []) $ fjoin ! $ owned ! O.the-row (Is O.the-row) (LL.makes O.the-type O′.the-plain 𝓤 H A) o (oval o ∷ []) go $ fjoin ! $
@@ -473,7 +478,8 @@ module _ {M : Type 1} (𝓤 : URA M) (H : Heap 𝓤) (A : Atoms 𝓤) (W : Given
 
         goes-attempted : ent 𝓤 (Handed ν) (sep 𝓤 (Attempted 𝓤 H A mem run .pre to-attempted) (⋆ 𝓤 H A Stays))
         goes-attempted =
-            qed W (‵ (flft κ₀ q₀) ∷ ‵ (flft κ₁ q₁) ∷ ‵ (flft κ₃ q₃) ∷ ‵ (flft (α ν) fullShare) ∷ ‵ (flft (β ν) fullShare) ∷ ‵ Codes ∷ ‵ Words ∷ ‵ Samples
+            qed W (‵ (flft κ₀ q₀) ∷ ‵ (flft κ₁ q₁) ∷ ‵ (flft κ₃ q₃) ∷ ‵ (flft (α ν) fullShare)
+            ∷ ‵ (flft (β ν) fullShare) ∷ ‵ Codes ∷ ‵ Words ∷ ‵ Samples
             ∷ ‵ (Requests′ ν) ∷ ‵ (File′ ν) ∷ ‵ (way-buffer ν) ∷ ‵ (way-file ν) ∷ []) ∵
             move ! (5 ∷ []) $ use1 W (‵ Codes ⊛ ‵ Codes) (shr-copy 𝓤 H A W (named 0) κ₀ (Array u32 256) .twice codes (ptr-vals codes)) $ split ! $
             move ! (7 ∷ []) $ use1 W (‵ Words ⊛ ‵ Words) (shr-slice-copy 𝓤 H A W (named 1) κ₁ u8 .twice words (slice-vals words)) $ split ! $

@@ -220,7 +220,8 @@ module _ {M : Type 1} (𝓤 : URA M) (H : Heap 𝓤) (A : Atoms 𝓤) (W : Given
   exits : (r : RunEnd) (f b : List ℕ) → IsEnd r → r .attempts ≤ n → length b ≡ length ys → worldOf r f b ≡ wholeRun
       → ent 𝓤 (sep 𝓤 (All b f) Part) (Post (eval r))
   exits r f b g short long e =
-      qed W ((‵ (flft κ₀ q₀) ⊛ ‵ (flft κ₁ q₁) ⊛ ‵ (flft κ₃ q₃) ⊛ ‵ (flft κ₄ q₄) ⊛ ‵ (flft κ₅ q₅) ⊛ ‵ Codes ⊛ ‵ Words ⊛ ‵ Samples ⊛ ‵ (Requests b) ⊛ ‵ (File f))
+      qed W ((‵ (flft κ₀ q₀) ⊛ ‵ (flft κ₁ q₁) ⊛ ‵ (flft κ₃ q₃) ⊛ ‵ (flft κ₄ q₄) ⊛ ‵ (flft κ₅ q₅) ⊛ ‵ Codes
+      ⊛ ‵ Words ⊛ ‵ Samples ⊛ ‵ (Requests b) ⊛ ‵ (File f))
       ∷ (‵ (flft κ₂ q₂) ⊛ ‵ Rows) ∷ []) ∵
       suffices ! _ (ends-at 𝓤 H A attempts.ended stayed (attempts.clauses 𝓤 H A mem run) W bound (eval r) r
       (tt, (tt, (tt, (tt, (b, (f, (tt, (tt, tt)))))))) (tt, (tt, (tt, (tt, (long, (tt, (tt, (tt, tt))))))))) $
@@ -290,7 +291,8 @@ module _ {M : Type 1} (𝓤 : URA M) (H : Heap 𝓤) (A : Atoms 𝓤) (W : Given
         ∷ ‵ (froom (tyRef erased mut (tyArray (tyInt w8) 26)) l₂₀ 0) ∷ ‵ (fdies E′.mir l₀) ∷ ‵ (fdies (tyRef (named 0) imm (tyArray (tyInt w32) 256)) l₁)
         ∷ ‵ (fdies (bytesOf 1) l₂) ∷ ‵ (fdies (bytesOf 2) l₃) ∷ ‵ (fdies (bytesOf 3) l₄) ∷ ‵ (fdies (sliceTy (tyRef (named 4) mut (tyInt w8))) l₅)
         ∷ ‵ (fdies (tyRef (named 5) mut (tyArray (tyInt w8) 26)) l₆) ∷ ‵ (fdies S′.mir l₇) ∷ ‵ (fdies (tyInt w64) l₈) ∷ ‵ (fdies arrayTy l₉)
-        ∷ ‵ (fdies (tyInt w64) l₁₀) ∷ ‵ (fdies E′.mir l₁₁) ∷ ‵ (fdies I′.mir l₁₂) ∷ ‵ (fdies O′.mir l₁₃) ∷ ‵ (fdies arrayTy l₁₄) ∷ ‵ (fdies tyBool l₁₅)
+        ∷ ‵ (fdies (tyInt w64) l₁₀) ∷ ‵ (fdies E′.mir l₁₁) ∷ ‵ (fdies I′.mir l₁₂) ∷ ‵ (fdies O′.mir l₁₃)
+        ∷ ‵ (fdies arrayTy l₁₄) ∷ ‵ (fdies tyBool l₁₅)
         ∷ ‵ (fdies (tyRef erased imm (tyArray rowTy 128)) l₁₆) ∷ ‵ (fdies (sliceTy (tyRef erased imm rowTy)) l₁₇)
         ∷ ‵ (fdies (tyRef erased mut (tyInt w8)) l₁₈) ∷ ‵ (fdies (sliceTy (tyRef erased mut (tyInt w8))) l₁₉)
         ∷ ‵ (fdies (tyRef erased mut (tyArray (tyInt w8) 26)) l₂₀) ∷ []
@@ -311,10 +313,12 @@ module _ {M : Type 1} (𝓤 : URA M) (H : Heap 𝓤) (A : Atoms 𝓤) (W : Given
 
     module _ (s : Turn) where
       abbrev Handed : (ℕ × ℕ) × (GName × GName) → SProp 𝓤
-      Handed = callee.Handed 𝓤 H A W mem run 𝓣 κ₀ κ₁ κ₃ κ₄ κ₅ q₀ q₁ q₃ q₄ q₅ codes words samples b₄ o₄ γ₄ vs b₅ o₅ γ₅ (s .requests) (s .file) (s .end) (s .is)
+      Handed = callee.Handed 𝓤 H A W mem run 𝓣 κ₀ κ₁ κ₃ κ₄ κ₅ q₀ q₁ q₃ q₄ q₅
+          codes words samples b₄ o₄ γ₄ vs b₅ o₅ γ₅ (s .requests) (s .file) (s .end) (s .is)
 
       hands : ent 𝓤 (All (s .requests) (s .file)) (H .⇛ (ex 𝓤 Handed))
-      hands = callee.hands 𝓤 H A W mem run 𝓣 κ₀ κ₁ κ₃ κ₄ κ₅ q₀ q₁ q₃ q₄ q₅ codes words samples b₄ o₄ γ₄ vs b₅ o₅ γ₅ (s .requests) (s .file) (s .end) (s .is)
+      hands = callee.hands 𝓤 H A W mem run 𝓣 κ₀ κ₁ κ₃ κ₄ κ₅ q₀ q₁ q₃ q₄ q₅
+          codes words samples b₄ o₄ γ₄ vs b₅ o₅ γ₅ (s .requests) (s .file) (s .end) (s .is)
 
       module _ (test : goingOf (s .end) n ≡ true) where
         -- the next sample, and its place
@@ -344,7 +348,8 @@ module _ {M : Type 1} (𝓤 : URA M) (H : Heap 𝓤) (A : Atoms 𝓤) (W : Given
             → ent 𝓤 (Handed ν) (C #engine·attempted (vptr (codes .ptr .0) (codes .ptr .1) ∷ sliceVal (words .ptr) (length (words .now))
             ∷ sliceVal (samples .ptr) (length (samples .now)) ∷ oval o ∷ sliceVal (b₄, o₄) (length ys) ∷ vptr b₅ o₅ ∷ eval (s .end) ∷ [])
             (Answers 𝓤 H A Left (Told o) (λ x. eval (x .0)) (λ x. All (x .1 .0) (x .1 .1))))
-        attempts-once o go ν = callee.attempts 𝓤 H A W mem run 𝓣 κ₀ κ₁ κ₃ κ₄ κ₅ q₀ q₁ q₃ q₄ q₅ codes words samples b₄ o₄ γ₄ vs b₅ o₅ γ₅ (s .requests) (s .file)
+        attempts-once o go ν = callee.attempts 𝓤 H A W mem run 𝓣 κ₀ κ₁ κ₃ κ₄ κ₅ q₀ q₁ q₃ q₄ q₅
+            codes words samples b₄ o₄ γ₄ vs b₅ o₅ γ₅ (s .requests) (s .file)
             (s .end) (s .is) o go (few test) (s .good .counted) (sampled test) (placed test) ν known-attempted
 
         -- where the loop stands after it
@@ -430,7 +435,8 @@ module _ {M : Type 1} (𝓤 : URA M) (H : Heap 𝓤) (A : Atoms 𝓤) (W : Given
         returns ! (look ! 3 refl) $ forget ! 0 refl $ forget ! 3 refl $ forget ! 4 refl $ forget ! 5 refl $ forget ! 6 refl $ forget ! 7 refl $
         forget ! 8 refl $
         forget ! 9 refl $ forget ! 10 refl $ forget ! 11 refl $ forget ! 12 refl $ forget ! 13 refl $ forget ! 16 refl $ forget ! 17 refl $
-        move ! (3 ∷ 23 ∷ 4 ∷ 24 ∷ 5 ∷ 25 ∷ 6 ∷ 26 ∷ 7 ∷ 27 ∷ 8 ∷ 28 ∷ 9 ∷ 29 ∷ 10 ∷ 30 ∷ 11 ∷ 31 ∷ 0 ∷ 32 ∷ 12 ∷ 33 ∷ 13 ∷ 34 ∷ 14 ∷ 35 ∷ 15 ∷ 36 ∷ 16 ∷ 37
+        move ! (3 ∷ 23 ∷ 4 ∷ 24 ∷ 5 ∷ 25 ∷ 6 ∷ 26 ∷ 7 ∷ 27 ∷ 8 ∷ 28 ∷ 9 ∷ 29 ∷ 10 ∷ 30 ∷ 11 ∷ 31 ∷ 0 ∷ 32 ∷ 12
+        ∷ 33 ∷ 13 ∷ 34 ∷ 14 ∷ 35 ∷ 15 ∷ 36 ∷ 16 ∷ 37
         ∷ 17 ∷ 38 ∷ 18 ∷ 39 ∷ 19 ∷ 40 ∷ 20 ∷ 41 ∷ 21 ∷ 42 ∷ 22 ∷ 43 ∷ []) $
         free1 ! $ free1 ! $ free1 ! $ free1 ! $ free1 ! $ free1 ! $ free1 ! $ free1 ! $ free1 ! $ free1 ! $ free1 ! $ free1 ! $ free1 ! $ free1 ! $
         free1 ! $ free1 ! $ free1 ! $ free1 ! $ free1 ! $ free1 ! $ free1 ! $ free0 ! $
@@ -495,7 +501,8 @@ module _ {M : Type 1} (𝓤 : URA M) (H : Heap 𝓤) (A : Atoms 𝓤) (W : Given
         (and-then ! (load ! (from ! (stop !)) (look ! 29 refl)) (and-then ! (lit ! tt) (and-then ! (lit ! tt) (and-then ! (lit ! tt) (no-more !)))))
         (λ r hr. drop ! $
         land ! (from ! (stop !)) (init ! 20 refl (LL.lawful E.the-type E′.the-laws 𝓤 H A W .typed r (eval r ∷ []) (hr .1) .0)) $
-        keep ! (24 ∷ 1 ∷ 0 ∷ 42 ∷ 40 ∷ 38 ∷ 36 ∷ 34 ∷ 32 ∷ 30 ∷ 28 ∷ 26 ∷ 22 ∷ 20 ∷ 18 ∷ 16 ∷ 14 ∷ 12 ∷ 10 ∷ 8 ∷ 6 ∷ 4 ∷ 2 ∷ 43 ∷ 41 ∷ 39 ∷ 37 ∷ 35 ∷ 33
+        keep ! (24 ∷ 1 ∷ 0 ∷ 42 ∷ 40 ∷ 38 ∷ 36 ∷ 34 ∷ 32 ∷ 30 ∷ 28 ∷ 26 ∷ 22 ∷ 20 ∷ 18 ∷ 16 ∷ 14 ∷ 12 ∷ 10 ∷ 8
+        ∷ 6 ∷ 4 ∷ 2 ∷ 43 ∷ 41 ∷ 39 ∷ 37 ∷ 35 ∷ 33
         ∷ 31 ∷ 29 ∷ 27 ∷ 25 ∷ 23 ∷ 21 ∷ 19 ∷ 17 ∷ 15 ∷ 13 ∷ 11 ∷ 9 ∷ 7 ∷ 5 ∷ 3 ∷ []) $
         looped known-going known-ask known-scan known-attempted roomr gn most places enough t (ht .0) (ht .1) m (hm .0) (hm .1 .1)
         l₀ l₁ l₂ l₃ l₄ l₅ l₆ l₇ l₈ l₉ l₁₀ l₁₁ l₁₂ l₁₃ l₁₄ l₁₅ l₁₆ l₁₇ l₁₈ l₁₉ l₂₀ (begin r (hr .0) (hr .1))))))))))))))))))))))))))
