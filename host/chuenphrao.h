@@ -7,7 +7,7 @@
      words     0 to 2,048, 4 bytes each: bits 15-0 the instruction, 16 loads RR, 17 RNI,
                18-21 the user's outputs
      rows      0 to 128, 16 bytes each, see below
-     state     always 1, 41 bytes, see below
+     state     always 1, STATE_BYTES bytes, see below
      samples   0 to 65,535, 4 bytes each, see below
 
    A ROW. A value may have no bit outside its mask.
@@ -25,6 +25,7 @@
      32-33 TR          34-35 M             36 TSR (0-7)
      37 marks: bit 0 ICS, 1 SYNC, 2 IACK, 3 a modification is waiting
      38 I4-I6 in bits 0-2                  39-40 the modification, zero without its mark
+     41 the user's outputs (0-15): bits 18-21 of the last executed word
 
    A SAMPLE. Every attempt uses up one.
 
@@ -36,7 +37,7 @@
 #include <stddef.h>
 #include <stdint.h>
 
-enum { DECK_MOST = 65536, WORD_BYTES = 4, ROW_BYTES = 16, STATE_BYTES = 41, SAMPLE_BYTES = 4, REQUEST_BYTES = 4 };
+enum { DECK_MOST = 65536, WORD_BYTES = 4, ROW_BYTES = 16, STATE_BYTES = 42, SAMPLE_BYTES = 4, REQUEST_BYTES = 4 };
 
 /* The answers. Of several that apply the first in this order is given: 9, 1, 2, 3, 4, then at each
    attempt 5, 6, 7, 8. An attempt with RESET high or COMPUTE low is never refused. */
@@ -52,7 +53,7 @@ enum {
     ANSWER_PAIR = 7,    /* odd designator where a pair is needed */
     ANSWER_OPTION = 8,  /* option not listed */
     ANSWER_DECK = 9,    /* deck over 65,536 bytes, state count not 1, length other than its counts say,
-                           or the state buffer not 41 bytes */
+                           or the state buffer not STATE_BYTES bytes */
 };
 
 /* A request is its kind times 65,536 plus a value of 16 bits. */
@@ -85,7 +86,7 @@ typedef struct {
    requests  has a place of four bytes for each sample; attempt i writes its request to place i,
              counted from 0, low byte first. It may be longer: what lies past the samples' places
              is never touched.
-   state     41 bytes.
+   state     STATE_BYTES bytes.
 
    No two of the buffers may overlap. A buffer of length 0 still needs a pointer that is not null.
 

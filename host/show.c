@@ -4,7 +4,7 @@
 #include <stdio.h>
 #include <string.h>
 
-enum { LC = 28, FLAGS = 27, MARKS = 37, MODIFICATION = 39, MARKED = 8, COLUMNS = 4, LINES = 14 };
+enum { LC = 28, FLAGS = 27, MARKS = 37, MODIFICATION = 39, OUTPUTS = 41, MARKED = 8, COLUMNS = 4, LINES = 14 };
 
 /* The causes that this host can meet: its buffers always fit, and a deck's count cannot say 65,536. */
 static const char *const answers[] = {
@@ -54,8 +54,9 @@ static const field fields[COLUMNS][LINES] = {
     {BIT("N", FLAGS, 7), BIT("Z", FLAGS, 6), BIT("V", FLAGS, 5), BIT("C", FLAGS, 4), BIT("NB", FLAGS, 3),
      BIT("ZB", FLAGS, 2), BIT("C4", FLAGS, 1), BIT("C8", FLAGS, 0), BIT("I4", 38, 0), BIT("I5", 38, 1),
      BIT("I6", 38, 2)},
-    {{"LC", LC, 0, 11}, {"RR", 30, 0, 11}, {"TR", 32, 0, 16}, {"M", 34, 0, 16}, {"TSR", 36, 0, 3},
-     BIT("ICS", MARKS, 0), BIT("SYNC", MARKS, 1), BIT("IACK", MARKS, 2), {"modification", MODIFICATION, 0, 16}},
+    {{"LC", LC, 0, 11}, {"RR", 30, 0, 11}, {"outputs", OUTPUTS, 0, 4}, {"TR", 32, 0, 16}, {"M", 34, 0, 16},
+     {"TSR", 36, 0, 3}, BIT("ICS", MARKS, 0), BIT("SYNC", MARKS, 1), BIT("IACK", MARKS, 2),
+     {"modification", MODIFICATION, 0, 16}},
 };
 
 static bool was_run(const outcome *ran)
@@ -67,8 +68,9 @@ static bool was_run(const outcome *ran)
 /* The fields that can be out of range, whole, since the state's own form would hide the unused bits. */
 static void show_given(const uint8_t *state)
 {
-    printf("  given        G %02X  LC %04X  RR %04X  TSR %02X  marks %02X  I4-I6 %02X  modification %04X\n",
-           state[26], number_at(state + LC), number_at(state + 30), state[36], state[MARKS], state[38],
+    printf("  given        G %02X  LC %04X  RR %04X  outputs %02X  TSR %02X  marks %02X  I4-I6 %02X"
+           "  modification %04X\n",
+           state[26], number_at(state + LC), number_at(state + 30), state[OUTPUTS], state[36], state[MARKS], state[38],
            number_at(state + MODIFICATION));
 }
 

@@ -5,17 +5,18 @@ import sys
 
 COMPUTE = struct.pack("<HBB", 0, 4, 0)
 NOP = 0xFF00
+STATE_BYTES = 42
 
 
-def deck(words, state={}, samples=(COMPUTE,), states=1):
-    """A deck without rows; state gives bytes of the 41 by their place (12 is R2, 28 LC, 30 RR)."""
-    bytes41 = bytearray(41)
+def deck(words, state={}, samples=(COMPUTE,), states=1, state_bytes=STATE_BYTES):
+    """A deck without rows; state gives bytes of the state by their place (12 is R2, 28 LC, 30 RR, 41 the outputs)."""
+    whole = bytearray(state_bytes)
     for at, value in state.items():
-        bytes41[at] = value
+        whole[at] = value
     return (
         struct.pack("<H", len(words)) + struct.pack(f"<{len(words)}I", *words)
         + struct.pack("<H", 0)
-        + struct.pack("<H", states) + bytes41
+        + struct.pack("<H", states) + whole
         + struct.pack("<H", len(samples)) + b"".join(samples)
     )
 
@@ -44,9 +45,12 @@ CASES = [
     ("the deck's own state on 1", deck([NOP], {**at(2048), 27: 87}), "1 0 0 2048 87"),
     ("a word of 2^22", deck([1 << 22], {27: 87}), "2 0 0 0 87"),
     ("lines of 32", deck([NOP], {}, [struct.pack("<HBB", 0, 36, 0)]), "4 0 0 0 0"),
-    ("the longest deck, 65,533 bytes", deck([NOP], {}, [COMPUTE] * 16370), "5 1 1 1 0"),
-    ("a well-formed deck of 65,537 bytes", deck([], {}, [COMPUTE] * 16372), "9 0 0"),
-    ("65,536 bytes, three too many", deck([NOP], {}, [COMPUTE] * 16370) + bytes(3), "9 0 0"),
+    ("outputs, before and in the word", deck([0x14A132], {12: 255, 13: 1, 41: 10}), "0 1 1 1 87"),
+    ("outputs of 16", deck([NOP], {41: 16}), "1 0 0 0 0"),
+    ("a state of 41 bytes", deck([NOP], state_bytes=41), "9 0 0"),
+    ("the longest deck, 65,534 bytes", deck([NOP], {}, [COMPUTE] * 16370), "5 1 1 1 0"),
+    ("a well-formed deck of 65,538 bytes", deck([], {}, [COMPUTE] * 16372), "9 0 0"),
+    ("65,536 bytes, two too many", deck([NOP], {}, [COMPUTE] * 16370) + bytes(2), "9 0 0"),
     ("empty", b"", "9 0 0"),
     ("two states", deck([NOP], {}, states=2), "9 0 0"),
 ]

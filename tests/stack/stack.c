@@ -19,7 +19,7 @@ enum { REPLY = 1, COMPUTE = 4, RESET = 8, LTSR = 4, JUMP_TO_0 = 0, NOP = 0xFF00 
 typedef struct {
     const char *name;
     uint32_t answer;
-    unsigned words, word, rows, raised, more_states, g, samples, lines, places_missing;
+    unsigned words, word, rows, raised, more_states, g, outputs, samples, lines, places_missing;
 } kind;
 
 static uint8_t deck[2 * DECK_MOST], requests[DECK_MOST], state[STATE_BYTES];
@@ -50,6 +50,7 @@ static void make(const kind *of)
     for (unsigned i = 0; i < 1 + of->more_states; i++, deck_len += STATE_BYTES) {
         memset(deck + deck_len, 0, STATE_BYTES);
         deck[deck_len + 26] = (uint8_t)of->g;
+        deck[deck_len + 41] = (uint8_t)of->outputs;
     }
     put(of->samples, 2);
     for (unsigned i = 0; i < of->samples; i++)
@@ -148,6 +149,7 @@ static const kind kinds[] = {
     {.name = "RESET", .samples = 16371, .lines = RESET},
     {.name = "COMPUTE low", .samples = 16371, .lines = COMPUTE},
     {.name = "state out of range", .answer = 1, .words = 1, .rows = 128, .g = 8, .samples = 1},
+    {.name = "outputs out of range", .answer = 1, .words = 1, .rows = 128, .outputs = 16, .samples = 1},
     {.name = "a word of 2^22", .answer = 2, .words = 2048, .word = 1 << 22, .rows = 128, .samples = 1},
     {.name = "2,049 words", .answer = 2, .words = 2049, .rows = 128, .samples = 1},
     {.name = "rows out of range", .answer = 3, .words = 1, .rows = 128, .raised = 8, .samples = 1},

@@ -9,7 +9,7 @@
 
 typedef __int128 wide;
 
-enum { G = 26, FLAGS = 27, LC = 28, WORDS = 2048 };
+enum { G = 26, FLAGS = 27, LC = 28, OUTPUTS = 41, WORDS = 2048 };
 
 /* The steps of a cut: designators of target and source, and whether they are of pairs. */
 typedef struct {
@@ -161,6 +161,7 @@ static bool ran(const uint32_t *words, unsigned steps, unsigned cycles, uint8_t 
     wrong |= differs("C", (after[FLAGS] >> 4 & 1) != c);
     wrong |= differs("V", (after[FLAGS] >> 5 & 1) != v);
     wrong |= differs("LC", after[LC] + 256u * after[LC + 1] != lc % WORDS);
+    wrong |= differs("an output", after[OUTPUTS] != words[steps - 1] >> 18);
     for (unsigned i = 0; i < 4 * steps; i++)
         wrong |= differs("a request", places[i] != 0);
     memcpy(state, after, STATE_BYTES);
@@ -207,6 +208,7 @@ static void random_state(uint8_t *state)
         state[i] = random_below(256);
     state[G] %= 8;
     memset(state + LC, 0, STATE_BYTES - LC);
+    state[OUTPUTS] = random_below(16);
     /* Words that go on from 2047 to 0 need a deck of 2,048: a few. */
     unsigned lc = random_below(256) ? random_below(5) : WORDS - 1 - random_below(7);
     put16(state + LC, lc);

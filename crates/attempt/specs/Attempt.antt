@@ -35,7 +35,8 @@ whenRefused xs k number = leaves xs (outcomeOf k 0 0 number)
 abbrev pub whenIdle : List ℕ → Core → ℕ → Leaves Outcome
 whenIdle xs k kind = leaves xs (outcomeOf k (placed kind 0) 1 0)
 
--- an executed word: its effect, and the next address by the way it goes and the rows' outputs
+-- an executed word: its effect, the next address by the way it goes and the rows' outputs, and its four user bits: "The state keeps the last executed
+-- word's four bits"
 unfoldable pub executedOf : List ℕ → Core → Fields → Sample → Outputs → Leaves Outcome
 executedOf xs k w sample o =
     let e = effectOf xs k (w .code) (w .operands) sample in
@@ -46,6 +47,7 @@ executedOf xs k w sample o =
       address = addressAfter (k .address) (e .back .way) (w .code) (w .«load_rr») o;
       bus = e .back .bus;
       latches = e .back .latches;
+      outputs = w .user;
     })
     (e .back .request)
     (cyclesOf (w .code))
@@ -66,6 +68,7 @@ resetOf k =
       address = record { lc = 1; rr = k .address .rr; tsr = k .address .tsr };
       bus = busWith (k .bus .m) false false;
       latches = used (k .latches);
+      outputs = k .outputs;
     }
 
 -- "a waiting modification is ORed into its low 16 bits"

@@ -33,6 +33,7 @@ doneBy row k w e o =
       address = addressAfter (k .address) (e .way) (w .code) (w .«load_rr») o;
       bus = e .bus;
       latches = e .latches;
+      outputs = w .user;
     })
     (e .request)
     (row .cycles)

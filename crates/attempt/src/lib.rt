@@ -198,6 +198,7 @@ fn done(row: CodeRow, core: Core, fields: Fields, e: Effect, o: Outputs) -> Outc
         address,
         bus,
         latches,
+        outputs: fields.user,
     };
     outcome_of(after, e.request, row.cycles, 0)
 }
@@ -325,6 +326,7 @@ fn reset(core: Core) -> Core
         address,
         bus,
         latches,
+        outputs: core.outputs,
     }
 }
 

@@ -25,9 +25,9 @@ use Rattle.state.specs.File.{Leaves, registerOf}
 use Rattle.state.specs.declared.Core.{Core}
 use Rattle.state.specs.declared.Latches.{Latches}
 use Rattle.state.specs.declared.Sample.{Sample}
-use Rattle.attempt_laws.specs.After.{pairIn, raIn, rowsSee, AddressIs, BusIs, requestIs, LatchesAre, costIs}
+use Rattle.attempt_laws.specs.After.{pairIn, raIn, rowsSee, AddressIs, BusIs, requestIs, LatchesAre, outputsAfter, costIs}
 use Rattle.attempt_laws.specs.Fate.{Fate, refused, waited, reset, compute-low, completed, noCode, oddPair, noOption, mustWait}
-use Rattle.attempt_laws.specs.Fate.{within, topIn, bIn, aIn, wordFate, takenWord, fateOf, afterReset, ends}
+use Rattle.attempt_laws.specs.Fate.{within, topIn, bIn, aIn, wordFate, takenWord, fateOf, afterReset, ends, EndsAs}
 use Rattle.attempt_laws.proofs.Fate.{attempt-fate}
 use Rattle.attempt_laws.proofs.Next.{past-is, jump-is, conditional-is, address-is, rows-see}
 use Rattle.attempt_laws.proofs.Bus.{bus-left, bus-is, request-none, request-is}
@@ -220,3 +220,15 @@ module _ (ws : List ℕ) (rs : List Row) (xs : List ℕ) (k : Core) (s : Sample)
         literal = λ lo hi. left hi;
         register = λ h. latches-are _ _ _ _ _ _;
       })
+
+  -- the user's outputs after any attempt
+  pub attempt-outputs : attemptOf ws rs xs k s .back .core .outputs ≡ outputsAfter (fateOf ws k s) word (k .outputs)
+  unfolding executedOf fieldsIn
+  attempt-outputs = go (attemptOf ws rs xs k s) (fateOf ws k s) (attempt-fate ws rs xs k s)
+    where
+      go : (e : Leaves Outcome) (f : Fate) → EndsAs word xs k s (outputsOf ws rs k s) e f → e .back .core .outputs ≡ outputsAfter f word (k .outputs)
+      go e (refused n) (z, q) = rw q
+      go e waited q = rw q
+      go e reset q = rw q
+      go e compute-low q = rw q
+      go e completed (w, a, q) = rw (q, ← apart-is word w a .2)

@@ -72,3 +72,7 @@ modified word l h = go (l .marked)
 pub taken-word : (ws : List ℕ) (k : Core) → k .latches .modification < 65536
     → Modified (wordAt ws (k .address .lc)) (k .latches .marked) (k .latches .modification) (takenWord ws k)
 taken-word ws k h = modified (wordAt ws (k .address .lc)) (k .latches) h
+
+-- bits 18-21 are the word's own: a modification does not reach them
+pub taken-outputs : (ws : List ℕ) (k : Core) → k .latches .modification < 65536 → takenWord ws k / 2 ^ 18 ≡ wordAt ws (k .address .lc) / 2 ^ 18
+taken-outputs ws k h = omega (arith, taken-word ws k h .high)

@@ -38,9 +38,9 @@ use Rattle.attempt.specs.declared.Outcome.{Outcome}
 
 -- ---- the state by its parts
 
-whole : (xs : List ℕ) (f : Flags) (a : Address) (b : Bus) (l : Latches) → FileInRange xs → AddressInRange a → BusInRange b → LatchesInRange l
-    → InRange xs (record { flags = f; address = a; bus = b; latches = l })
-whole xs f a b l x y z w =
+whole : (xs : List ℕ) (f : Flags) (a : Address) (b : Bus) (l : Latches) (u : ℕ) → FileInRange xs → AddressInRange a → BusInRange b → LatchesInRange l
+    → u < 16 → InRange xs (record { flags = f; address = a; bus = b; latches = l; outputs = u })
+whole xs f a b l u x y z w o =
     record {
       size = x .size;
       bytes = bytes-each xs (x .bytes);
@@ -53,6 +53,7 @@ whole xs f a b l x y z w =
       interrupts = w .interrupts;
       modification = w .modification;
       unmarked = w .unmarked;
+      outputs = o;
     }
 
 module _ (xs : List ℕ) (k : Core) (h : InRange xs k) where
@@ -70,7 +71,8 @@ module _ (xs : List ℕ) (k : Core) (h : InRange xs k) where
   reset-in-range : InRange xs (resetOf k)
   unfolding resetOf
   reset-in-range =
-      whole xs _ _ _ _ file-part (record { lc = omega arith; rr = h .rr; tsr = h .tsr }) (h .m) (used-in-range (k .latches) latches-part)
+      let latches = used-in-range (k .latches) latches-part in
+      whole xs _ _ _ _ _ file-part (record { lc = omega arith; rr = h .rr; tsr = h .tsr }) (h .m) latches (h .outputs)
 
 -- ---- an instruction's effect
 
@@ -139,7 +141,7 @@ module _ (xs : List ℕ) (k : Core) (s : Sample) (o : Outputs) (w : Fields) (h :
   executed-in-range p =
       let e = effect-in-range xs k s (w .code) h d (f .fitting) in
       let a = address-in-range (k .address) o (address-part xs k h) p _ (w .code) (w .«load_rr») (e .way) in
-      whole _ _ _ _ _ (e .file) a (e .bus) (e .latches)
+      whole _ _ _ _ _ _ (e .file) a (e .bus) (e .latches) (f .in-range)
 
 -- ---- an attempt
 

@@ -121,6 +121,7 @@ afterReset k =
       address = record { lc = 1; rr = k .address .rr; tsr = k .address .tsr };
       bus = record { m = k .bus .m; sync = false; iack = false };
       latches = record { g = k .latches .g; tr = k .latches .tr; ics = k .latches .ics; interrupts = k .latches .interrupts; marked = false; modification = 0 };
+      outputs = k .outputs;
     }
 
 -- the file, the state, the request, the microcycles and the refusal's number

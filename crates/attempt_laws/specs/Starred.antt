@@ -43,6 +43,7 @@ core g c =
       address = record { lc = 0; rr = 0; tsr = 0 };
       bus = record { m = 0; sync = false; iack = false };
       latches = record { g = g; tr = 0; ics = false; interrupts = 0; marked = false; modification = 0 };
+      outputs = 0;
     }
 
 -- COMPUTE alone

@@ -17,6 +17,7 @@ use Rattle.choose.specs.Below.{allBelow}
 use Rattle.numbers.proofs.Laws.{take-bytes, drop-bytes}
 use Rattle.rows.specs.Section.{rowsOf}
 use Rattle.rows.specs.Range.{rowsInRange}
+use Rattle.state_bytes.specs.Bytes.{stateBytes}
 use Rattle.state_bytes.specs.Range.{stateInRange}
 use Rattle.deck.specs.Sections.{countAt, sectionEnd, layoutOf, wholeOf, sectionOf, wordsPart, rowsPart, statePart, samplesPart}
 use Rattle.deck.specs.Elements.{linesAt, interruptsAt, sampleOf, sampleAt}
@@ -38,18 +39,18 @@ section-end-ge s a size = omega arith
 pub fits : (s : List ℕ) → wholeOf s ≡ true
     → (sectionEnd s 0 4 ≤ length s)
     × (sectionEnd s (layoutOf s .rows) 16 ≤ length s)
-    × (sectionEnd s (layoutOf s .state) 41 ≤ length s)
+    × (sectionEnd s (layoutOf s .state) stateBytes ≤ length s)
     × (sectionEnd s (layoutOf s .samples) 4 ≤ length s)
 unfolding layoutOf
 fits s h =
     let end = tested s h .2 in
     let state = section-end-ge s (layoutOf s .rows) 16 in
-    let samples = section-end-ge s (layoutOf s .state) 41 in
+    let samples = section-end-ge s (layoutOf s .state) stateBytes in
     let past = section-end-ge s (layoutOf s .samples) 4 in
     omega arith
 
--- elements of at most 41 bytes, as many as a count can say
-pub product-le : (size count : ℕ) → size ≤ 41 → count ≤ 65535 → size * count ≤ 2686935
+-- elements of at most a state's bytes, as many as a count can say
+pub product-le : (size count : ℕ) → size ≤ stateBytes → count ≤ 65535 → size * count ≤ stateBytes * 65535
 product-le size count a b = mul-le-mul a b
 
 -- ---- the parts of a whole deck
@@ -80,7 +81,7 @@ whole-deck s h =
     let past = ap (λ (r : List ℕ). count ++ (samplesPart s ++ r)) none ∙ ap (λ (r : List ℕ). count ++ r) (append-nil (samplesPart s)) in
     cut s 0 4 h
     ∙ ap (λ (r : List ℕ). take 2 s ++ (wordsPart s ++ r)) (cut s (l .rows) 16 h
-    ∙ ap (λ (r : List ℕ). take 2 (drop (l .rows) s) ++ (rowsPart s ++ r)) (cut s (l .state) 41 h
+    ∙ ap (λ (r : List ℕ). take 2 (drop (l .rows) s) ++ (rowsPart s ++ r)) (cut s (l .state) stateBytes h
     ∙ ap (λ (r : List ℕ). take 2 (drop (l .state) s) ++ (statePart s ++ r)) (cut s (l .samples) 4 h ∙ past)))
 
 pub section-bytes : (s : List ℕ) (a size : ℕ) → Bytes s → Bytes (sectionOf s a size)
@@ -97,12 +98,12 @@ passed false number rest l h = absurd (omega arith)
 pub accepted : (s : List ℕ) (requests buffer : ℕ) → deckRefusalOf s requests buffer ≡ 0 → Accepted s requests buffer
 unfolding deckRefusalOf
 accepted s requests buffer h =
-    let nine = passed (wholeOf s && eqb buffer 41) 9 _ (omega arith) h in
+    let nine = passed (wholeOf s && eqb buffer stateBytes) 9 _ (omega arith) h in
     let one = passed (stateInRange (statePart s)) 1 _ (omega arith) (nine .1) in
     let two = passed (wordsInRange (wordsPart s)) 2 _ (omega arith) (one .1) in
     let three = passed (rowsPartInRange (rowsPart s)) 3 _ (omega arith) (two .1) in
     let four = passed (samplesInRange (samplesPart s) && placesEnough (samplesPart s) requests) 4 0 (omega arith) (three .1) in
-    let both = and-eq-true-iff (wholeOf s) (eqb buffer 41) .0 (nine .0) in
+    let both = and-eq-true-iff (wholeOf s) (eqb buffer stateBytes) .0 (nine .0) in
     let enough = and-eq-true-iff (samplesInRange (samplesPart s)) (placesEnough (samplesPart s) requests) .0 (four .0) in
     record {
       whole = both .0;
@@ -117,7 +118,7 @@ accepted s requests buffer h =
 pub not-refused : (s : List ℕ) (requests buffer : ℕ) → Accepted s requests buffer → deckRefusalOf s requests buffer ≡ 0
 unfolding deckRefusalOf
 not-refused s requests buffer a =
-    rw (a .whole, eq-eqb buffer 41 (a .buffer-length), a .state, a .words, a .rows, a .samples, le-leb _ _ (a .places))
+    rw (a .whole, eq-eqb buffer stateBytes (a .buffer-length), a .state, a .words, a .rows, a .samples, le-leb _ _ (a .places))
 
 not-one : (t : Bool) (n rest : ℕ) → (n ≡ 1 → ⊥) → (rest ≡ 1 → ⊥) → unless t n rest ≡ 1 → ⊥
 not-one true n rest a b e = b e
@@ -128,7 +129,7 @@ pub state-accepted : (s : List ℕ) (requests buffer : ℕ) → stateInRange (st
 unfolding deckRefusalOf
 state-accepted s requests buffer h =
     rw h
-    (not-one (wholeOf s && eqb buffer 41) 9 _ (λ e. omega arith)
+    (not-one (wholeOf s && eqb buffer stateBytes) 9 _ (λ e. omega arith)
     (not-one (wordsInRange (wordsPart s)) 2 _ (λ e. omega arith)
     (not-one (rowsPartInRange (rowsPart s)) 3 _ (λ e. omega arith)
     (not-one (samplesInRange (samplesPart s) && placesEnough (samplesPart s) requests) 4 0 (λ e. omega arith) (λ e. omega arith)))))

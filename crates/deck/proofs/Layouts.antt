@@ -7,6 +7,7 @@ use native.Mathlib.Omega.{arith}
 use borrow.Author.Tests.{le-leb, leb-true}
 use lib.Dec.{leb}
 use lib.ListN.{length}
+use Rattle.state_bytes.specs.Bytes.{stateBytes}
 use Rattle.deck.specs.Sections.{countAt, sectionEnd, layoutOf, wholeOf, sectionOf, wordsPart, rowsPart, statePart, samplesPart}
 use Rattle.deck.specs.Ranges.{deckRefusalOf}
 use Rattle.deck.specs.Layouts.{wholeBy, between, refusalBy}
@@ -38,7 +39,7 @@ unfolding layoutOf
 sections-by-layout s h =
     let l = layoutOf s in
     let f = fits s h in
-    (by-layout s 0 4 h (f .0), by-layout s (l .rows) 16 h (f .1), by-layout s (l .state) 41 h (f .2), by-layout s (l .samples) 4 h (f .3))
+    (by-layout s 0 4 h (f .0), by-layout s (l .rows) 16 h (f .1), by-layout s (l .state) stateBytes h (f .2), by-layout s (l .samples) 4 h (f .3))
 
 pub refusal-by-layout : (s : List ℕ) (requests buffer : ℕ) → refusalBy s (layoutOf s) requests buffer ≡ deckRefusalOf s requests buffer
 unfolding refusalBy deckRefusalOf wholeBy wholeOf

@@ -18,13 +18,14 @@ use Rattle.numbers.proofs.Laws.{byte-below, pair-low, pair-high}
 use Rattle.rows.specs.Range.{rowInRange}
 use Rattle.rows.specs.Section.{rowFrom}
 use Rattle.rows.proofs.Matching.{row-in-range}
+use Rattle.state_bytes.specs.Bytes.{stateBytes}
 use Rattle.state_bytes.specs.Order.{StateInRange}
 use Rattle.state_bytes.specs.Range.{stateInRange}
 use Rattle.state_bytes.proofs.Order.{state-range-exactly}
 use Rattle.deck.specs.Elements.{linesAt, interruptsAt}
 use Rattle.deck.specs.Ranges.{wordsInRange, rowsPartInRange, samplesInRange, placesEnough, unless, deckRefusalOf}
 use Rattle.deck.specs.Sections.{countAt, sectionEnd, layoutOf, wholeOf, wordsPart, rowsPart, statePart, samplesPart}
-use Rattle.deck.specs.Slip.{counted, Sections, Whole, WordsAllowed, RowsAllowed, SamplesAllowed, slip, FirstFailing}
+use Rattle.deck.specs.Slip.{counted, Sections, Whole, Old, WordsAllowed, RowsAllowed, SamplesAllowed, slip, FirstFailing}
 use Rattle.deck.proofs.Every.{rows-every}
 use Rattle.deck.proofs.Laws.{tested, fits, section-end-ge, part-length, whole-deck, section-bytes, word-below, samples-few, sample-in-range}
 use Rattle.deck.proofs.Laws.{rows-in-range}
@@ -112,11 +113,11 @@ module _ (s : List ℕ) (b : Bytes s) (h : wholeOf s ≡ true) where
       let f = fits s h in
       let words = section-end-ge s 0 4 in
       let rows = section-end-ge s (layoutOf s .rows) 16 in
-      let state = section-end-ge s (layoutOf s .state) 41 in
+      let state = section-end-ge s (layoutOf s .state) stateBytes in
       let samples = section-end-ge s (layoutOf s .samples) 4 in
       omega arith
 
-  sections-of : Sections s
+  sections-of : Sections stateBytes s
   sections-of =
       let l = layoutOf s in
       let f = fits s h in
@@ -137,7 +138,7 @@ module _ (s : List ℕ) (b : Bytes s) (h : wholeOf s ≡ true) where
         order = rw (words, rows, state, samples) at (whole-deck s h);
         words-size = part-length s 0 4 h (f .0);
         rows-size = part-length s (l .rows) 16 h (f .1);
-        state-size = part-length s (l .state) 41 h (f .2) ∙ ap (λ (c : ℕ). 41 * c) one;
+        state-size = part-length s (l .state) stateBytes h (f .2) ∙ ap (λ (c : ℕ). stateBytes * c) one;
         samples-size = part-length s (l .samples) 4 h (f .3);
       }
 
@@ -158,7 +159,7 @@ module _ (s before part rest : List ℕ) (size n : ℕ) (e : s ≡ before ++ (co
   unfolding sectionEnd
   end-is = rw count-is (simp length-append (omega arith))
 
-module _ (s : List ℕ) (c : Sections s) where
+module _ (s : List ℕ) (c : Sections stateBytes s) where
   -- the deck up to the end of each section
   abbrev words : List ℕ
   words = counted (c .words) (c .words-part)
@@ -176,7 +177,7 @@ module _ (s : List ℕ) (c : Sections s) where
   after-rows = next s words (c .rows-part) _ 16 (c .rows) (c .order) (c .rows-size)
 
   all : s ≡ state ++ samples
-  all = next s rows (c .state-part) samples 41 1 after-rows (c .state-size)
+  all = next s rows (c .state-part) samples stateBytes 1 after-rows (c .state-size)
 
   rows-at : layoutOf s .rows ≡ length words
   unfolding layoutOf
@@ -188,7 +189,7 @@ module _ (s : List ℕ) (c : Sections s) where
 
   samples-at : layoutOf s .samples ≡ length state
   unfolding layoutOf
-  samples-at = ap (λ (a : ℕ). sectionEnd s a 41) state-at ∙ end-is s rows (c .state-part) samples 41 1 after-rows (c .state-size)
+  samples-at = ap (λ (a : ℕ). sectionEnd s a stateBytes) state-at ∙ end-is s rows (c .state-part) samples stateBytes 1 after-rows (c .state-size)
 
   end-at : layoutOf s .end ≡ length s
   unfolding layoutOf
@@ -197,33 +198,36 @@ module _ (s : List ℕ) (c : Sections s) where
       ap (λ (a : ℕ). sectionEnd s a 4) samples-at ∙ end-is s state (c .samples-part) [] 4 (c .samples) last (c .samples-size) ∙ ap length (sym all)
 
   one-state : countAt s (layoutOf s .state) ≡ 1
-  one-state = ap (countAt s) state-at ∙ count-is s rows (c .state-part) samples 41 1 after-rows (c .state-size)
+  one-state = ap (countAt s) state-at ∙ count-is s rows (c .state-part) samples stateBytes 1 after-rows (c .state-size)
 
   whole-is : length s ≤ 65536 → wholeOf s ≡ true
   unfolding wholeOf
   whole-is l = rw (le-leb _ _ l, eq-eqb _ 1 one-state, eq-eqb _ _ end-at)
 
 -- ---- the slip
+sections-length : (bytes : ℕ) (s : List ℕ) (c : Sections bytes s) → length s ≡ 8 + 4 * c .words + 16 * c .rows + bytes + 4 * c .samples
+sections-length bytes s c = ap length (c .order) ∙ simp length-append (omega arith)
+
 module _ (s : List ℕ) (b : Bytes s) (requests buffer : ℕ) where
-  whole-exactly : Decides (wholeOf s && eqb buffer 41) (Whole s buffer)
+  whole-exactly : Decides (wholeOf s && eqb buffer stateBytes) (Whole s buffer)
   whole-exactly = (
     (λ h.
-        let (whole, size) = both-true (wholeOf s) (eqb buffer 41) h in
+        let (whole, size) = both-true (wholeOf s) (eqb buffer stateBytes) h in
         record { size = tested s whole .0; sections = sections-of s b whole; buffer-size = eqb-true _ _ size }),
-    (λ w. rw (whole-is s (w .sections) (w .size), eq-eqb buffer 41 (w .buffer-size))),
+    (λ w. rw (whole-is s (w .sections) (w .size), eq-eqb buffer stateBytes (w .buffer-size))),
   )
 
   given : FirstFailing (slip s requests buffer) (deckRefusalOf s requests buffer)
   unfolding deckRefusalOf
   given =
-      let state = section-bytes s (layoutOf s .state) 41 b in
+      let state = section-bytes s (layoutOf s .state) stateBytes b in
       let samples = section-bytes s (layoutOf s .samples) 4 b in
       let attempts = samplesPart s in
       let four = unless (samplesInRange attempts && placesEnough attempts requests) 4 0 in
       let three = unless (rowsPartInRange (rowsPart s)) 3 four in
       let two = unless (wordsInRange (wordsPart s)) 2 three in
       let one = unless (stateInRange (statePart s)) 1 two in
-      first (wholeOf s && eqb buffer 41) (Whole s buffer) whole-exactly 9 one (drop 1 (slip s requests buffer))
+      first (wholeOf s && eqb buffer stateBytes) (Whole s buffer) whole-exactly 9 one (drop 1 (slip s requests buffer))
       (first (stateInRange (statePart s)) (StateInRange (statePart s)) (state-range-exactly (statePart s) state) 1 two (drop 2 (slip s requests buffer))
       (first (wordsInRange (wordsPart s)) (WordsAllowed (wordsPart s)) (words-exactly (wordsPart s)) 2 three (drop 3 (slip s requests buffer))
       (first (rowsPartInRange (rowsPart s)) (RowsAllowed (rowsPart s)) (rows-exactly (rowsPart s)) 3 four (drop 4 (slip s requests buffer))
@@ -235,3 +239,12 @@ module _ (s : List ℕ) (b : Bytes s) (requests buffer : ℕ) where
     (λ e. subst (λ (m : ℕ). FirstFailing (slip s requests buffer) m) e given),
     (λ f. one-number (slip s requests buffer) _ n given f),
   )
+
+  -- 02, L1: "old 41-byte decks and host state buffers get 9", whatever they hold: no deck is of both forms, since their lengths differ modulo 4
+  pub old-refused : Old s buffer → deckRefusalOf s requests buffer ≡ 9
+  old-refused old = refusal-exactly 9 .1 (inl (neither, refl))
+    where
+      neither : Whole s buffer → ⊥
+      neither w =
+          ⊎-elim (λ c. omega (arith, sections-length _ s c, sections-length _ s (w .sections)))
+          (λ e. omega (arith, w .buffer-size)) old

@@ -6,6 +6,7 @@ use Prim.Native.Nat.{ℕ, _+_, _-_}
 use lib.Dec.{eqb, leb}
 use lib.ListN.{length, take, drop}
 use Rattle.choose.specs.Ranged.{pick}
+use Rattle.state_bytes.specs.Bytes.{stateBytes}
 use Rattle.state_bytes.specs.Range.{stateInRange}
 use Rattle.deck.specs.Sections.{countAt}
 use Rattle.deck.specs.Ranges.{wordsInRange, rowsPartInRange, samplesInRange, placesEnough, unless}
@@ -20,7 +21,7 @@ between s a e = pick (leb e (length s) && leb (a + 2) e) (take (e - (a + 2)) (dr
 
 unfoldable pub refusalBy : List ℕ → Layout → ℕ → ℕ → ℕ
 refusalBy s l requests buffer =
-    unless (wholeBy s l && eqb buffer 41) 9
+    unless (wholeBy s l && eqb buffer stateBytes) 9
     (unless (stateInRange (between s (l .state) (l .samples))) 1
     (unless (wordsInRange (between s 0 (l .rows))) 2
     (unless (rowsPartInRange (between s (l .rows) (l .state))) 3

@@ -10,6 +10,7 @@ use Rattle.numbers.specs.Numbers.{wordAt}
 use Rattle.choose.specs.Below.{allBelow}
 use Rattle.rows.specs.Section.{rowsOf}
 use Rattle.rows.specs.Range.{rowsInRange}
+use Rattle.state_bytes.specs.Bytes.{stateBytes}
 use Rattle.state_bytes.specs.Range.{stateInRange}
 use Rattle.deck.specs.Sections.{wholeOf, wordsPart, rowsPart, statePart, samplesPart}
 use Rattle.deck.specs.Elements.{linesAt, interruptsAt}
@@ -33,10 +34,10 @@ placesEnough s requests = leb (length s / 4) (requests / 4)
 abbrev pub unless : Bool → ℕ → ℕ → ℕ
 unless t number rest = pick t rest number
 
--- "Order: 9, then 1, 2, 3, 4"; 9 also for "the host's state buffer not 41 bytes"
+-- "Order: 9, then 1, 2, 3, 4"; 9 also for the host's state buffer of another length than a state's
 unfoldable pub deckRefusalOf : List ℕ → ℕ → ℕ → ℕ
 deckRefusalOf s requests buffer =
-    unless (wholeOf s && eqb buffer 41) 9
+    unless (wholeOf s && eqb buffer stateBytes) 9
     (unless (stateInRange (statePart s)) 1
     (unless (wordsInRange (wordsPart s)) 2
     (unless (rowsPartInRange (rowsPart s)) 3
@@ -46,7 +47,7 @@ deckRefusalOf s requests buffer =
 -- what holds of a deck and the lengths of the two buffers where there is no refusal
 pub record Accepted (s : List ℕ) (requests buffer : ℕ) : Type 0 where
   pub whole : wholeOf s ≡ true
-  pub buffer-length : buffer ≡ 41
+  pub buffer-length : buffer ≡ stateBytes
   pub state : stateInRange (statePart s) ≡ true
   pub words : wordsInRange (wordsPart s) ≡ true
   pub rows : rowsPartInRange (rowsPart s) ≡ true

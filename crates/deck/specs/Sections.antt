@@ -6,6 +6,7 @@ use lib.Dec.{eqb, leb}
 use lib.ListN.{length, take, drop}
 use Rattle.choose.specs.Ranged.{pick}
 use Rattle.numbers.specs.Numbers.{pairAt}
+use Rattle.state_bytes.specs.Bytes.{stateBytes}
 use Rattle.deck.specs.declared.Layout.{Layout}
 
 -- "each after its count": how many elements the section that starts at byte a says it has
@@ -16,12 +17,12 @@ countAt s a = pairAt s a
 unfoldable pub sectionEnd : List ℕ → ℕ → ℕ → ℕ
 sectionEnd s a size = a + 2 + size * countAt s a
 
--- "in this order": words of 4 bytes, which start the deck, rows of 16, the state of 41, samples of 4
+-- "in this order": words of 4 bytes, which start the deck, rows of 16, the state, samples of 4
 unfoldable pub layoutOf : List ℕ → Layout
 layoutOf s =
     let rows = sectionEnd s 0 4 in
     let state = sectionEnd s rows 16 in
-    let samples = sectionEnd s state 41 in
+    let samples = sectionEnd s state stateBytes in
     record { rows = rows; state = state; samples = samples; end = sectionEnd s samples 4 }
 
 -- 9 is given for a "deck over 65,536 bytes, state count not 1, length other than its counts say". A count that lies past the end
@@ -44,7 +45,7 @@ abbrev pub rowsPart : List ℕ → List ℕ
 rowsPart s = sectionOf s (layoutOf s .rows) 16
 
 abbrev pub statePart : List ℕ → List ℕ
-statePart s = sectionOf s (layoutOf s .state) 41
+statePart s = sectionOf s (layoutOf s .state) stateBytes
 
 abbrev pub samplesPart : List ℕ → List ℕ
 samplesPart s = sectionOf s (layoutOf s .samples) 4

@@ -8,6 +8,7 @@ use Rattle.numbers.specs.Laid.{LaidWithin}
 use Rattle.numbers.specs.Numbers.{wordAt}
 use Rattle.rows.specs.Matching.{RowInRange}
 use Rattle.rows.specs.Section.{rowFrom}
+use Rattle.state_bytes.specs.Bytes.{stateBytes}
 use Rattle.state_bytes.specs.Order.{StateInRange}
 use Rattle.deck.specs.Sections.{wordsPart, rowsPart, statePart, samplesPart}
 
@@ -15,8 +16,8 @@ use Rattle.deck.specs.Sections.{wordsPart, rowsPart, statePart, samplesP
 abbrev pub counted : ℕ → List ℕ → List ℕ
 counted n part = n % 256 ∷ n / 256 ∷ part
 
--- "A deck holds the first four in this order": words of 4 bytes, rows of 16, one state of 41, samples of 4, and nothing else
-pub record Sections (s : List ℕ) : Type 0 where
+-- "A deck holds the first four in this order": words of 4 bytes, rows of 16, one state of so many bytes, samples of 4, and nothing else
+pub record Sections (bytes : ℕ) (s : List ℕ) : Type 0 where
   pub words : ℕ
   pub rows : ℕ
   pub samples : ℕ
@@ -27,14 +28,19 @@ pub record Sections (s : List ℕ) : Type 0 where
   pub order : s ≡ counted words words-part ++ (counted rows rows-part ++ (counted 1 state-part ++ counted samples samples-part))
   pub words-size : length words-part ≡ 4 * words
   pub rows-size : length rows-part ≡ 16 * rows
-  pub state-size : length state-part ≡ 41 * 1
+  pub state-size : length state-part ≡ bytes * 1
   pub samples-size : length samples-part ≡ 4 * samples
 
--- 9 is given for what is not this: "deck over 65,536 bytes, state count not 1, length other than its counts say, or the host's state buffer not 41 bytes"
+-- 9 is given for what is not this: "deck over 65,536 bytes, state count not 1, length other than its counts say", or the host's state
+-- buffer of another length than a state's
 pub record Whole (s : List ℕ) (buffer : ℕ) : Type 0 where
   pub size : length s ≤ 65536
-  pub sections : Sections s
-  pub buffer-size : buffer ≡ 41
+  pub sections : Sections stateBytes s
+  pub buffer-size : buffer ≡ stateBytes
+
+-- 02, L1: "old 41-byte decks and host state buffers", of which every one gets 9
+abbrev pub Old : List ℕ → ℕ → Type 0
+Old s buffer = Sections 41 s ⊎ (buffer ≡ 41)
 
 -- 2 is given for "over 2,048 words, or a word of 2^22 or more"
 pub record WordsAllowed (s : List ℕ) : Type 0 where

@@ -1,7 +1,9 @@
 // A deck's bytes: its four sections, each handed back as that part of the deck, what they hold, and the refusals before the first attempt.
 use state::Sample;
+use state_bytes::STATE_BYTES;
 ghost use mathlib.Core.Path.{_≡_};
-ghost use Prim.Native.Nat.{_+_, _≤_};
+ghost use Prim.Native.Nat.{_+_, _*_, _≤_};
+ghost use Rattle.state_bytes.specs.Bytes.{stateBytes};
 ghost use Rattle.deck.specs.Sections.{sectionEnd, layoutOf};
 ghost use Rattle.deck.specs.Elements.{sampleOf};
 ghost use Rattle.deck.specs.Ranges.{wordsInRange, rowsPartInRange, samplesInRange, deckRefusalOf};
@@ -18,8 +20,8 @@ pub struct Layout {
 
 // Where the section that starts at byte a ends, which has elements of size bytes: the next one starts there.
 fn section_end(deck: &[u8], a: usize, size: usize) -> usize
-    requires { ⌜ (a ≤ 16777216) × (size ≤ 41) ⌝ }
-    ensures { λ r. ⌜ (r ≡ sectionEnd (now (deck .entry)) a size) × (r ≤ a + 2686937) ⌝ }
+    requires { ⌜ (a ≤ 16777216) × (size ≤ stateBytes) ⌝ }
+    ensures { λ r. ⌜ (r ≡ sectionEnd (now (deck .entry)) a size) × (r ≤ a + 2 + stateBytes * 65535) ⌝ }
 {
     let count = numbers::pair_at(deck, a) as usize;
     a + 2 + size * count
@@ -31,7 +33,7 @@ pub fn sections(deck: &[u8]) -> Layout
 {
     let rows = section_end(deck, 0, 4);
     let state = section_end(deck, rows, 16);
-    let samples = section_end(deck, state, 41);
+    let samples = section_end(deck, state, STATE_BYTES);
     let end = section_end(deck, samples, 4);
     Layout {
         rows: rows,
@@ -163,7 +165,7 @@ pub struct Opened {
 fn refusal(deck: &[u8], l: Layout, requests_len: usize, state_len: usize) -> u8
     ensures { λ r. ⌜ r ≡ refusalBy (now (deck .entry)) l «requests_len» «state_len» ⌝ }
 {
-    if !(whole(deck, l) & (state_len == 41)) {
+    if !(whole(deck, l) & (state_len == STATE_BYTES)) {
         return 9;
     }
     if !state_bytes::in_range(state(deck, l)) {

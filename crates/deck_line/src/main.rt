@@ -1,6 +1,7 @@
 // Reads a deck from standard input and prints one line: answer, attempts, microcycles, LC, flag byte; for 9 only the first three.
 use libc::STDIN_FILENO;
 use libc::STDOUT_FILENO;
+use state_bytes::STATE_BYTES;
 
 fn number(n: u64) {
     io::print_decimal(STDOUT_FILENO, n);
@@ -20,7 +21,7 @@ fn lc_and_flags(state: &[u8]) {
 // A deck of 65,536 bytes has fewer samples than the places here. On 1-4 there is no other state than the deck's own.
 fn line(deck: &[u8]) {
     let mut requests = [0u8; 65536];
-    let mut state = [0u8; 41];
+    let mut state = [0u8; STATE_BYTES];
     let r = engine::run(deck, &mut requests, &mut state);
     let answer = r.answer;
     number(answer as u64);

@@ -137,7 +137,7 @@ pub struct Report {
     pub microcycles: u32,
 }
 
-// The bench host's entry: a deck's bytes, a place of four bytes for each sample, and 41 bytes for the state returned.
+// The bench host's entry: a deck's bytes, a place of four bytes for each sample, and a state's bytes for the state returned.
 #[no_mangle]
 pub extern "C" fn run(deck: &[u8], requests: &mut [u8], state: &mut [u8]) -> Report
     ensures { λ r. ⌜ hosted r (now (requests .exit)) (now (state .exit)) ≡ hostOf (now (deck .entry)) (now (requests .entry)) (now (state .entry)) ⌝ }

@@ -243,6 +243,10 @@ fn document(vectors: &[u8; 256]) {
     );
     columns();
     say(
+        b"\nEvery completed attempt, one with a failed condition too, also loads the user's outputs with bits 18-21 of its word. A wait, RESET,\n",
+    );
+    say(b"COMPUTE low and a refusal keep them.\n");
+    say(
         b"\n| Key | Codes | Format | Microcycles | Status | Condition | Registers | Waits | Refusals | Vectors |\n",
     );
     say(b"|---|---|---|---|---|---|---|---|---|---|\n");

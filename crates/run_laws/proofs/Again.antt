@@ -16,7 +16,7 @@ use Rattle.engine.specs.Run.{samplesFrom}
 use Rattle.numbers.specs.Numbers.{Bytes}
 use Rattle.numbers.proofs.Laws.{pair-below}
 use Rattle.state.specs.Range.{InRange, SampleInRange}
-use Rattle.state_bytes.specs.Bytes.{fileOf, coreOf, bytesOf}
+use Rattle.state_bytes.specs.Bytes.{stateBytes, fileOf, coreOf, bytesOf}
 use Rattle.state_bytes.specs.Range.{stateInRange}
 use Rattle.state_bytes.proofs.Laws.{state-in-range, bytes-in-range, stored-bytes, state-bytes, file-back, core-back}
 use Rattle.run_laws.specs.Laws.{SamplesInRange}
@@ -47,7 +47,7 @@ module _ (deck : List ℕ) (b : Bytes deck) where
       let l = layoutOf deck in
       run-in-range _ _ (rows-in-range (rowsPart deck) (a .rows) .1)
       _ (samples-in-range (samplesPart deck) (section-bytes deck (l .samples) 4 b) (a .samples) (length (samplesPart deck) / 4) 0 (omega arith))
-      _ (state-in-range (statePart deck) (section-bytes deck (l .state) 41 b) (a .state))
+      _ (state-in-range (statePart deck) (section-bytes deck (l .state) stateBytes b) (a .state))
 
   module _ (requests state : List ℕ) (h : deckRefusalOf deck (length requests) (length state) ≡ 0) where
     returned-bytes : hostOf deck requests state .state ≡ bytesOf (deckRun deck requests .file) (deckRun deck requests .core)

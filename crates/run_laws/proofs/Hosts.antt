@@ -12,6 +12,7 @@ use Rattle.engine.specs.Host.{deckRun, hostOf}
 use Rattle.engine.proofs.Hosts.{answers}
 use Rattle.engine.proofs.Runs.{samples-length}
 use Rattle.numbers.specs.Numbers.{Bytes}
+use Rattle.state_bytes.specs.Bytes.{stateBytes}
 use Rattle.state_bytes.proofs.Laws.{state-in-range}
 use Rattle.run_laws.specs.Laws.{WordsInRange, Number}
 use Rattle.run_laws.proofs.Again.{samples-in-range}
@@ -31,7 +32,7 @@ module _ (deck requests state : List ℕ) (h : deckRefusalOf deck (length reques
       rw (← answers deck requests state h (deckRun deck requests) refl)
       (run-number _ _ words-in-range (rows-in-range (rowsPart deck) (a .rows) .1)
       _ (samples-in-range (samplesPart deck) (section-bytes deck (l .samples) 4 b) (a .samples) (length (samplesPart deck) / 4) 0 (omega arith))
-      _ (state-in-range (statePart deck) (section-bytes deck (l .state) 41 b) (a .state))
+      _ (state-in-range (statePart deck) (section-bytes deck (l .state) stateBytes b) (a .state))
       refl)
 
   -- 0, "all samples used"

@@ -7,3 +7,4 @@ pub mod Hosts
 pub mod Returned
 pub mod Attempts
 pub mod Slip
+pub mod Outputs

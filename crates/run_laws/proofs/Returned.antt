@@ -22,7 +22,7 @@ use Rattle.state.specs.Range.{InRange, SampleInRange}
 use Rattle.state.specs.File.{Leaves}
 use Rattle.state.specs.declared.Core.{Core}
 use Rattle.state.specs.declared.Sample.{Sample}
-use Rattle.state_bytes.specs.Bytes.{fileOf, coreOf, bytesOf}
+use Rattle.state_bytes.specs.Bytes.{stateBytes, fileOf, coreOf, bytesOf}
 use Rattle.state_bytes.proofs.Laws.{state-in-range, stored-bytes}
 use Rattle.run_laws.specs.Attempts.{sumBelow, stateAfter, stateOf, Ran}
 use Rattle.run_laws.specs.Returned.{deckRows, sampleCount, deckState, stateIn, attemptIn, Returned, Refused}
@@ -62,11 +62,11 @@ module _ (deck requests state : List ℕ) (b : Bytes deck) (h : deckRefusalOf de
       let a = accepted deck (length requests) (length state) h in
       sample-in-its-range (samplesPart deck) (section-bytes deck (layoutOf deck .samples) 4 b) (a .samples) j (omega arith)
 
-  state-each : (i : ℕ) → i ≤ sampleCount deck → InRange (stateIn deck i .file) (stateIn deck i .back)
+  pub state-each : (i : ℕ) → i ≤ sampleCount deck → InRange (stateIn deck i .file) (stateIn deck i .back)
   state-each i l =
       let a = accepted deck (length requests) (length state) h in
       after-in-range _ _ (rows-in-range (rowsPart deck) (a .rows) .1) _ (deckState deck)
-      (state-in-range (statePart deck) (section-bytes deck (layoutOf deck .state) 41 b) (a .state)) i (λ j m. samples-each j (omega arith))
+      (state-in-range (statePart deck) (section-bytes deck (layoutOf deck .state) stateBytes b) (a .state)) i (λ j m. samples-each j (omega arith))
 
   returned : (i : ℕ) → ran .made ≡ i → i ≤ sampleCount deck → Returned deck requests (hostOf deck requests state) i
   unfolding deckRun

@@ -10,8 +10,8 @@ use borrow.Author.Tests.{eqb-true, eqb-false}
 use lib.Dec.{eqb}
 use lib.ListN.{length}
 use Rattle.deck.specs.Ranges.{deckRefusalOf}
-use Rattle.deck.specs.Slip.{slip, FirstFailing, BeforeAttempts}
-use Rattle.deck.proofs.Slip.{refusal-exactly}
+use Rattle.deck.specs.Slip.{slip, FirstFailing, BeforeAttempts, Old}
+use Rattle.deck.proofs.Slip.{refusal-exactly, old-refused}
 use Rattle.engine.specs.Host.{Hosted, hosted, reported, hostOf}
 use Rattle.engine.proofs.Hosts.{refuses}
 use Rattle.numbers.specs.Numbers.{Bytes}
@@ -25,6 +25,12 @@ module _ (deck requests state : List ℕ) (b : Bytes deck) where
   host-untouched n z f =
       let e : deckRefusalOf deck (length requests) (length state) ≡ n = refusal-exactly deck b (length requests) (length state) n .1 f in
       sym (refuses deck requests state (λ h. z (sym e ∙ h))) ∙ ap (λ (m : ℕ). hosted (reported m 0 0) requests state) e
+
+  -- 02, L1: "old 41-byte decks and host state buffers get 9"
+  pub host-old : Old deck (length state) → hostOf deck requests state ≡ hosted (reported 9 0 0) requests state
+  host-old old =
+      host-untouched 9 (λ z. omega arith)
+      (refusal-exactly deck b (length requests) (length state) 9 .0 (old-refused deck b (length requests) (length state) old))
 
   -- an answer of 9, 1, 2, 3 or 4 comes from no attempt
   from-slip : (n : ℕ) → BeforeAttempts n → hostOf deck requests state .report .answer ≡ n → deckRefusalOf deck (length requests) (length state) ≡ n

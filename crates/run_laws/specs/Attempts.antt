@@ -5,6 +5,7 @@ use mathlib.Core.List.{List}
 use lib.ListN.{length}
 use Rattle.attempt.specs.Attempt.{attemptOf}
 use Rattle.attempt.specs.declared.Outcome.{Outcome}
+use Rattle.attempt_laws.specs.Fate.{fateOf, completed}
 use Rattle.engine.specs.Run.{World}
 use Rattle.numbers.specs.Numbers.{quadAt}
 use Rattle.rows.specs.declared.Row.{Row}
@@ -32,6 +33,16 @@ module _ (ws : List ℕ) (rs : List Row) (at : ℕ → Sample) (first : Leaves C
 
   abbrev pub attemptAt : ℕ → Leaves Outcome
   attemptAt i = attemptFrom ws rs (stateAfter i) (at i)
+
+  -- attempt i completes its word; none does from attempt i on; attempt i is the last that does, of n
+  abbrev pub completesAt : ℕ → Type 0
+  completesAt i = fateOf ws (stateAfter i .back) (at i) ≡ completed
+
+  abbrev pub NoneCompletes : ℕ → ℕ → Type 0
+  NoneCompletes i n = (j : ℕ) → i ≤ j → j < n → completesAt j → ⊥
+
+  abbrev pub LastCompleted : ℕ → ℕ → Type 0
+  LastCompleted i n = (i < n) × completesAt i × NoneCompletes (suc i) n
 
 abbrev pub stateOf : World → Leaves Core
 stateOf w = leaves (w .file) (w .core)

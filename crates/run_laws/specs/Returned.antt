@@ -13,7 +13,7 @@ use Rattle.rows.specs.declared.Row.{Row}
 use Rattle.state.specs.File.{Leaves, leaves}
 use Rattle.state.specs.declared.Core.{Core}
 use Rattle.state_bytes.specs.Bytes.{fileOf, coreOf, bytesOf}
-use Rattle.run_laws.specs.Attempts.{sumBelow, stateAfter, attemptAt}
+use Rattle.run_laws.specs.Attempts.{sumBelow, stateAfter, attemptAt, NoneCompletes, LastCompleted}
 
 abbrev pub deckRows : List ℕ → List Row
 deckRows deck = rowsOf (rowsPart deck) (length (rowsPart deck) / 16)
@@ -30,6 +30,13 @@ stateIn deck i = stateAfter (wordsPart deck) (deckRows deck) (sampleAt (samplesP
 
 abbrev pub attemptIn : List ℕ → ℕ → Leaves Outcome
 attemptIn deck i = attemptAt (wordsPart deck) (deckRows deck) (sampleAt (samplesPart deck)) (deckState deck) i
+
+-- attempt i is the last of n that completes its word; none of n does
+abbrev pub LastCompletedIn : List ℕ → ℕ → ℕ → Type 0
+LastCompletedIn deck i n = LastCompleted (wordsPart deck) (deckRows deck) (sampleAt (samplesPart deck)) (deckState deck) i n
+
+abbrev pub NoneCompletesIn : List ℕ → ℕ → Type 0
+NoneCompletesIn deck n = NoneCompletes (wordsPart deck) (deckRows deck) (sampleAt (samplesPart deck)) (deckState deck) 0 n
 
 -- h is handed back after i attempts, none of them refused: "the counts up to it; the places of earlier attempts are written, the others are untouched",
 -- and "the state returned is written there"

@@ -30,11 +30,13 @@ pub struct Latches {
     pub interrupts: u8,
 }
 
+// The outputs are the user's four, bits 18-21 of the last executed word.
 pub struct Core {
     pub flags: Flags,
     pub address: Address,
     pub bus: Bus,
     pub latches: Latches,
+    pub outputs: u8,
 }
 
 // The lines as one attempt samples them; interrupts are I0-I3.

@@ -1,6 +1,6 @@
--- The state's 41 bytes against the file and the core: there and back, and in range there and back. Assumes nothing.
+-- The state's bytes against the file and the core: there and back, and in range there and back. Assumes nothing.
 use mathlib.Core.Path.{_≡_, refl}
-use mathlib.Core.Bool.{Bool, true, false, _||_, and-eq-true-iff}
+use mathlib.Core.Bool.{Bool, true, false, _||_}
 use mathlib.Core.List.{List, [], _∷_, append-assoc}
 use Prim.Native.Nat.{ℕ, zero, suc, _+_, _%_, _<_, _≤_}
 use native.Mathlib.Nat.{mod-add-div}
@@ -15,7 +15,7 @@ use Rattle.numbers.proofs.Laws.{pair-low, pair-high, pair-below, take-bytes, ap
 use Rattle.state.specs.FlagByte.{nibbleOf}
 use Rattle.state.specs.Range.{InRange}
 use Rattle.state.specs.declared.Core.{Core}
-use Rattle.state_bytes.specs.Bytes.{addressOf, busOf, latchesOf, coreOf, padded, fileOf, tailOf, bytesOf, storedOf}
+use Rattle.state_bytes.specs.Bytes.{stateBytes, addressOf, busOf, latchesOf, coreOf, padded, fileOf, tailOf, bytesOf, storedOf}
 use Rattle.state_bytes.specs.Range.{addressInRange, latchesInRange, coreInRange, stateInRange}
 use Rattle.state.proofs.Digits.{nibble-le, digits, bits, flag-byte-below, flag-byte-back, flags-back}
 use Rattle.state_bytes.proofs.Steps.{padded-length, tail-length}
@@ -25,10 +25,10 @@ pub file-length : (s : List ℕ) → length (fileOf s) ≡ 26
 unfolding fileOf
 file-length s = length-take-le 26 (padded s 26) (omega (arith, padded-length s 26))
 
-pub bytes-length : (xs : List ℕ) (k : Core) → length xs ≡ 26 → length (bytesOf xs k) ≡ 41
+pub bytes-length : (xs : List ℕ) (k : Core) → length xs ≡ 26 → length (bytesOf xs k) ≡ stateBytes
 bytes-length xs k e = simp length-append (omega (arith, tail-length k))
 
-pub stored-bytes : (xs : List ℕ) (k : Core) (out : List ℕ) → length out ≡ 41 → storedOf xs k out ≡ bytesOf xs k
+pub stored-bytes : (xs : List ℕ) (k : Core) (out : List ℕ) → length out ≡ stateBytes → storedOf xs k out ≡ bytesOf xs k
 unfolding storedOf
 stored-bytes xs k out e = rw (eq-eqb _ _ e)
 
@@ -43,13 +43,13 @@ run-is s zero a e = drop-of-length-le s {i = a} (omega arith)
 run-is s (suc n) a e = rw (drop-cons s a 0 (omega arith), run-is s n (suc a) (omega arith))
 
 -- what is tested of a state in range
-pub tested : (s : List ℕ) → stateInRange s ≡ true → (length s ≡ 41) × (byteAt s 37 ≤ 15) × (coreInRange (coreOf s) ≡ true)
+pub tested : (s : List ℕ) → stateInRange s ≡ true → (length s ≡ stateBytes) × (byteAt s 37 ≤ 15) × (coreInRange (coreOf s) ≡ true)
 unfolding stateInRange
 tested s h =
-    let p = three (eqb (length s) 41) (leb (byteAt s 37) 15) (coreInRange (coreOf s)) h in
+    let p = three (eqb (length s) stateBytes) (leb (byteAt s 37) 15) (coreInRange (coreOf s)) h in
     (eqb-true _ _ (p .0), leb-true _ _ (p .1), p .2)
 
-tail-back : (s : List ℕ) → Bytes s → byteAt s 37 ≤ 15 → tailOf (coreOf s) ≡ run s 26 15
+tail-back : (s : List ℕ) → Bytes s → byteAt s 37 ≤ 15 → tailOf (coreOf s) ≡ run s 26 16
 unfolding tailOf coreOf addressOf busOf latchesOf
 tail-back s b h =
     let marks : byteAt s 37 % 16 ≡ byteAt s 37 = omega arith in
@@ -61,7 +61,7 @@ pub bytes-back : (s : List ℕ) → Bytes s → stateInRange s ≡ true → byte
 unfolding fileOf
 bytes-back s b h =
     let t = tested s h in
-    rw (take-append-le 26 s _ (omega arith), tail-back s b (t .1), ← run-is s 15 26 (t .0)) (take-append-drop 26 s)
+    rw (take-append-le 26 s _ (omega arith), tail-back s b (t .1), ← run-is s 16 26 (t .0)) (take-append-drop 26 s)
 
 -- ---- to the bytes and back
 -- the byte at 26 + j, after the registers
@@ -75,7 +75,7 @@ core-back xs k e =
     let at = tail-at xs k e in
     let l = k .latches in
     let m = bits (l .marked) (k .bus .iack) (k .bus .sync) (l .ics) (nibbleOf (l .marked) (k .bus .iack) (k .bus .sync) (l .ics)) refl in
-    rw (at 0, at 1, at 2, at 3, at 4, at 5, at 6, at 7, at 8, at 9, at 10, at 11, at 12, at 13, at 14)
+    rw (at 0, at 1, at 2, at 3, at 4, at 5, at 6, at 7, at 8, at 9, at 10, at 11, at 12, at 13, at 14, at 15)
     (rw (flags-back (k .flags), mod-add-div (k .address .lc) 256, mod-add-div (k .address .rr) 256)
     (rw (mod-add-div (k .latches .tr) 256, mod-add-div (k .bus .m) 256, mod-add-div (k .latches .modification) 256)
     (rw (is-bit (k .latches .marked) _ (m .0), is-bit (k .bus .iack) _ (m .1), is-bit (k .bus .sync) _ (m .2), is-bit (k .latches .ics) _ (m .3)))))
@@ -89,7 +89,8 @@ pub core-true : (xs : List ℕ) (k : Core) → InRange xs k → coreInRange k �
 unfolding coreInRange addressInRange latchesInRange
 core-true xs k r =
     rw (le-leb (k .address .lc) 2047 (omega arith), le-leb (k .address .rr) 2047 (omega arith), le-leb (k .address .tsr) 7 (omega arith))
-    (rw (le-leb (k .latches .g) 7 (omega arith), le-leb (k .latches .interrupts) 7 (omega arith)) (go (k .latches .marked) refl))
+    (rw (le-leb (k .latches .g) 7 (omega arith), le-leb (k .latches .interrupts) 7 (omega arith))
+    (rw (go (k .latches .marked) refl, le-leb (k .outputs) 15 (omega arith))))
   where
     go : (t : Bool) → k .latches .marked ≡ t → (t || eqb (k .latches .modification) 0) ≡ true
     go true e = refl
@@ -110,7 +111,7 @@ in-range : (xs : List ℕ) (k : Core) → length xs ≡ 26 → Bytes xs → core
     → k .bus .m < 65536 → k .latches .tr < 65536 → k .latches .modification < 65536 → InRange xs k
 unfolding coreInRange addressInRange latchesInRange
 in-range xs k e b h m tr modification =
-    let p = and-eq-true-iff (addressInRange (k .address)) (latchesInRange (k .latches)) .0 h in
+    let p = three (addressInRange (k .address)) (latchesInRange (k .latches)) (leb (k .outputs) 15) h in
     let a = three (leb (k .address .lc) 2047) (leb (k .address .rr) 2047) (leb (k .address .tsr) 7) (p .0) in
     let l = three (leb (k .latches .g) 7) (leb (k .latches .interrupts) 7) (k .latches .marked || eqb (k .latches .modification) 0) (p .1) in
     record {
@@ -125,6 +126,7 @@ in-range xs k e b h m tr modification =
       interrupts = omega (arith, leb-true (k .latches .interrupts) 7 (l .1));
       modification = modification;
       unmarked = λ u. eqb-true _ _ (rw u at (l .2));
+      outputs = omega (arith, leb-true (k .outputs) 15 (p .2));
     }
 
 -- ---- bytes

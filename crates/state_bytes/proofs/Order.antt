@@ -1,4 +1,4 @@
--- The 41 bytes hold the state in 01's order, as they are read and as they are written.
+-- The state's bytes hold the state in 01's order, as they are read and as they are written.
 -- Assumes nothing.
 use mathlib.Core.Path.{_≡_, sym, ap, _∙_}
 use mathlib.Core.Bool.{true}
@@ -20,7 +20,7 @@ use Rattle.state.specs.declared.Core.{Core}
 use Rattle.state.proofs.Digits.{digits}
 use Rattle.state.proofs.Order.{flags-order, flag-byte-order}
 use Rattle.state.proofs.Registers.{named, one-place, every-place}
-use Rattle.state_bytes.specs.Bytes.{addressOf, busOf, latchesOf, coreOf, fileOf, tailOf, bytesOf}
+use Rattle.state_bytes.specs.Bytes.{stateBytes, addressOf, busOf, latchesOf, coreOf, fileOf, tailOf, bytesOf}
 use Rattle.state_bytes.specs.Order.{registersWide, stateOrder, RegistersInOrder, StateInRange}
 use Rattle.state_bytes.specs.Range.{stateInRange}
 use Rattle.state_bytes.proofs.Laws.{file-length, file-bytes, core-true, tested, state-in-range, tail-at}
@@ -40,7 +40,7 @@ unfolding tailOf nibbleOf
 bytes-order xs k e =
     let at = tail-at xs k e in
     let flags = flag-byte-order (k .flags) in
-    omega (arith, at 0, at 1, at 2, at 3, at 4, at 5, at 6, at 7, at 8, at 9, at 10, at 11, at 12, at 13, at 14)
+    omega (arith, at 0, at 1, at 2, at 3, at 4, at 5, at 6, at 7, at 8, at 9, at 10, at 11, at 12, at 13, at 14, at 15)
 
 -- the place of a register is where 01 lists its name
 place-named : (i g d : ℕ) → i < registersWide → Designates g d → nameOf g d ≡ nameAt i → slotOf g d ≡ i
@@ -87,6 +87,7 @@ module _ (s : List ℕ) (b : Bytes s) where
         interrupts = omega arith;
         modification = omega arith;
         unmarked = λ u. omega (arith, h .unmarked (omega (arith, eqb-false (byteAt s 37 / 8 % 2) 1 u)));
+        outputs = omega arith;
       }
 
   pub state-range-exactly : (stateInRange s ≡ true) ↔ StateInRange s
@@ -95,5 +96,5 @@ module _ (s : List ℕ) (b : Bytes s) where
     limits-hold,
     (λ h.
         let l = h .limits in
-        rw (eq-eqb _ 41 (h .size), le-leb (byteAt s 37) 15 (omega arith), core-true (fileOf s) (coreOf s) (holds-inside h))),
+        rw (eq-eqb _ stateBytes (h .size), le-leb (byteAt s 37) 15 (omega arith), core-true (fileOf s) (coreOf s) (holds-inside h))),
   )

@@ -8,7 +8,7 @@ use lib.ListN.{length, getD, take, drop, set, replicate, length-append, length-d
 use lib.Seq.{paste, paste-suc, length-paste, take-at}
 use borrow.Author.Tests.{eq-eqb, ne-eqb}
 use Rattle.state.specs.declared.Core.{Core}
-use Rattle.state_bytes.specs.Bytes.{padded, fileOf, tailOf, storedOf}
+use Rattle.state_bytes.specs.Bytes.{stateBytes, padded, fileOf, tailOf, storedOf}
 use Rattle.state_bytes.specs.Filled.{filledOf}
 
 zeros-at : (n i : ℕ) → _≡_ {A = ℕ} (getD (replicate n 0) i 0) 0
@@ -42,19 +42,19 @@ loaded d s e = rw (drop-of-length-le d {i = 26} (omega arith)) (append-nil (take
 take-padded : (s : List ℕ) (n : ℕ) → length s ≡ n → take n (padded s n) ≡ s
 take-padded s n e = take-at s (replicate n 0) n e
 
-pub tail-length : (k : Core) → length (tailOf k) ≡ 15
+pub tail-length : (k : Core) → length (tailOf k) ≡ 16
 unfolding tailOf
 tail-length k = refl
 
--- a buffer of 41 that `store` has filled, first with the 26 registers and then with the 15 other bytes
-pub stored : (d xs : List ℕ) (k : Core) → length d ≡ 41 → length xs ≡ 26 → filledOf (filledOf d 0 xs 26) 26 (tailOf k) 15 ≡ storedOf xs k d
+-- a state's buffer that `store` has filled, first with the 26 registers and then with the 16 other bytes
+pub stored : (d xs : List ℕ) (k : Core) → length d ≡ stateBytes → length xs ≡ 26 → filledOf (filledOf d 0 xs 26) 26 (tailOf k) 16 ≡ storedOf xs k d
 unfolding filledOf storedOf
 stored d xs k e f =
-    let none = drop-of-length-le (xs ++ drop 26 d) {i = 41} (simp (length-append, length-drop) (omega arith)) in
-    rw (take-padded xs 26 f, take-padded (tailOf k) 15 (tail-length k), take-at xs (drop 26 d) 26 f, none, eq-eqb (length d) 41 e)
+    let none = drop-of-length-le (xs ++ drop 26 d) {i = stateBytes} (simp (length-append, length-drop) (omega arith)) in
+    rw (take-padded xs 26 f, take-padded (tailOf k) 16 (tail-length k), take-at xs (drop 26 d) 26 f, none, eq-eqb (length d) stateBytes e)
     (append-nil (xs ++ tailOf k))
 
 -- a buffer of another length
-pub unstored : (d xs : List ℕ) (k : Core) → (length d ≡ 41 → ⊥) → d ≡ storedOf xs k d
+pub unstored : (d xs : List ℕ) (k : Core) → (length d ≡ stateBytes → ⊥) → d ≡ storedOf xs k d
 unfolding storedOf
-unstored d xs k n = rw (ne-eqb (length d) 41 n)
+unstored d xs k n = rw (ne-eqb (length d) stateBytes n)

@@ -1,6 +1,6 @@
--- "State: .. 41 bytes: G0-GB, R2-RF, G, flags, LC, RR, TR, M, TSR, marks (bit 0 ICS, 1 SYNC, 2 IACK, 3 modification), I4-I6
--- in bits 0-2, modification." The registers are bytes 0 to 25; then G at 26, flags 27, LC 28, RR 30, TR 32, M 34, TSR 36, marks 37,
--- I4-I6 38, modification 39. A byte that is missing reads as 0.
+-- "State: .. G0-GB, R2-RF, G, flags, LC, RR, TR, M, TSR, marks (bit 0 ICS, 1 SYNC, 2 IACK, 3 modification), I4-I6 in bits 0-2, modification", and
+-- by 02, L1, the user's outputs "as a 42nd byte". The registers are bytes 0 to 25; then G at 26, flags 27, LC 28, RR 30, TR 32, M 34, TSR 36, marks 37,
+-- I4-I6 38, modification 39, outputs 41. A byte that is missing reads as 0.
 use mathlib.Core.Path.{_≡_}
 use mathlib.Core.List.{List, [], _∷_, _++_}
 use Prim.Native.Nat.{ℕ, _/_, _%_}
@@ -13,6 +13,10 @@ use Rattle.state.specs.declared.Address.{Address}
 use Rattle.state.specs.declared.Bus.{Bus}
 use Rattle.state.specs.declared.Latches.{Latches}
 use Rattle.state.specs.declared.Core.{Core}
+
+-- how many bytes a state has, in a deck and in the host's buffer
+abbrev pub stateBytes : ℕ
+stateBytes = 42
 
 -- ---- from the bytes
 unfoldable pub addressOf : List ℕ → Address
@@ -44,6 +48,7 @@ coreOf s =
       address = addressOf s;
       bus = busOf s;
       latches = latchesOf s;
+      outputs = byteAt s 41;
     }
 
 -- the bytes s, and n zeros for what is missing
@@ -78,11 +83,12 @@ tailOf k =
     ∷ k .latches .interrupts
     ∷ k .latches .modification % 256
     ∷ k .latches .modification / 256
+    ∷ k .outputs
     ∷ []
 
 abbrev pub bytesOf : List ℕ → Core → List ℕ
 bytesOf file k = file ++ tailOf k
 
--- "a state buffer of 41 bytes. The state returned is written there"; one of another length is left as found
+-- "a state buffer .. The state returned is written there"; one of another length than a state's is left as found
 unfoldable pub storedOf : List ℕ → Core → List ℕ → List ℕ
-storedOf file k out = pick (eqb (length out) 41) (bytesOf file k) out
+storedOf file k out = pick (eqb (length out) stateBytes) (bytesOf file k) out

@@ -1,4 +1,4 @@
--- How the code copies bytes. This is the code's way only; Steps says that it makes the file and the 41 bytes of Bytes.
+-- How the code copies bytes. This is the code's way only; Steps says that it makes the file and the bytes of Bytes.
 use mathlib.Core.List.{List}
 use Prim.Native.Nat.{ℕ}
 use lib.Seq.{paste}

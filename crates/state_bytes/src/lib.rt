@@ -1,4 +1,4 @@
-// The state between its 41 bytes and the register file with the core, and the range of each.
+// The state between its bytes and the register file with the core, and the range of each.
 use state::Address;
 use state::Bus;
 use state::Core;
@@ -9,6 +9,9 @@ ghost use lib.ListN.{length};
 ghost use Rattle.state_bytes.specs.Bytes.{addressOf, busOf, latchesOf, coreOf, Loaded, tailOf, storedOf};
 ghost use Rattle.state_bytes.specs.Filled.{filledOf};
 ghost use Rattle.state_bytes.specs.Range.{addressInRange, latchesInRange, coreInRange, stateInRange};
+
+// How many bytes a state has, in a deck and in the host's buffer.
+pub const STATE_BYTES: usize = 42;
 
 fn address_in(s: &[u8]) -> Address
     ensures { λ r. ⌜ r ≡ addressOf (now (s .entry)) ⌝ }
@@ -57,6 +60,7 @@ fn core_in(s: &[u8]) -> Core
         address: address,
         bus: bus,
         latches: latches,
+        outputs: numbers::byte_at(s, 41),
     }
 }
 
@@ -81,7 +85,7 @@ pub fn load(s: &[u8], file: &mut [u8; 26]) -> Core
 }
 
 // The bytes after the registers.
-fn tail(core: Core) -> [u8; 15]
+fn tail(core: Core) -> [u8; 16]
     ensures { λ r. ⌜ r ≡ tailOf core ⌝ }
 {
     let flags = core.flags;
@@ -104,17 +108,18 @@ fn tail(core: Core) -> [u8; 15]
         l.interrupts,
         (l.modification % 256) as u8,
         (l.modification / 256) as u8,
+        core.outputs,
     ]
 }
 
-// A buffer of another length than 41 is left as found.
+// A buffer of another length than a state's is left as found.
 pub fn store(core: Core, file: &[u8; 26], out: &mut [u8])
     ensures { λ _. ⌜ now (out .exit) ≡ storedOf (now (file .entry)) core (now (out .entry)) ⌝ }
 {
-    if out.len() == 41 {
+    if out.len() == STATE_BYTES {
         let rest = tail(core);
         fill(out, 0, file, 26);
-        fill(out, 26, &rest, 15);
+        fill(out, 26, &rest, 16);
     }
 }
 
@@ -135,12 +140,12 @@ fn core_in_range(core: Core) -> bool
 {
     let a = core.address;
     let l = core.latches;
-    address_in_range(a) & latches_in_range(l)
+    address_in_range(a) & latches_in_range(l) & (core.outputs <= 15)
 }
 
 // The unused bits of marks are tested apart: the core does not hold them.
 pub fn in_range(s: &[u8]) -> bool
     ensures { λ r. ⌜ r ≡ stateInRange (now (s .entry)) ⌝ }
 {
-    (s.len() == 41) & (numbers::byte_at(s, 37) <= 15) & core_in_range(core_in(s))
+    (s.len() == STATE_BYTES) & (numbers::byte_at(s, 37) <= 15) & core_in_range(core_in(s))
 }

@@ -1,5 +1,5 @@
 -- One attempt at a step's word: fetched, taken apart, not refused, not held, executed. Assumes nothing.
-use Prim.Native.Nat.{ℕ, _+_, _*_, _/_, _%_, _<_, _≤_}
+use Prim.Native.Nat.{ℕ, _+_, _*_, _/_, _%_, _^_, _<_, _≤_}
 use mathlib.Core.Path.{_≡_, refl}
 use mathlib.Core.Bool.{Bool, true, false}
 use mathlib.Core.List.{List, []}
@@ -75,25 +75,30 @@ refusal-none sign later (pair a b) h =
 
 -- ---- executed
 
--- the rest of the state after a step
-abbrev pub coreAfter : Core → Flags → Bool → Core
-coreAfter k f loads =
+-- bit 16 of a word
+abbrev loads : ℕ → Bool
+loads w = eqb (w / 0x1_0000 % 2) 1
+
+-- the rest of the state after a step with the word w
+abbrev pub coreAfter : Core → Flags → ℕ → Core
+coreAfter k f w =
     record {
       flags = f;
-      address = record { lc = following (k .address .lc); rr = pick loads (following (k .address .lc)) (k .address .rr); tsr = k .address .tsr };
+      address = record { lc = following (k .address .lc); rr = pick (loads w) (following (k .address .lc)) (k .address .rr); tsr = k .address .tsr };
       bus = k .bus;
       latches = used (k .latches);
+      outputs = w / 2 ^ 18 % 2 ^ 4;
     }
 
-abbrev pub endedAt : Core → Leaves Flags → Bool → Bool → Leaves Outcome
-endedAt k m loads wide = leaves (m .file) (outcomeOf (coreAfter k (m .back) loads) 0 (1 + bit wide) 0)
+abbrev pub endedAt : Core → Leaves Flags → ℕ → Bool → Leaves Outcome
+endedAt k m w wide = leaves (m .file) (outcomeOf (coreAfter k (m .back) w) 0 (1 + bit wide) 0)
 
 plus-one : (at : ℕ) → plusOne at ≡ following at
 plus-one at = omega arith
 
 executed-is : (sign : Sign) (later : Bool) (t : Step) (xs : List ℕ) (k : Core) (s : Sample) (w : ℕ) → Fits t
     → executedOf xs k (fieldsAt w (stepCode sign later (isPair t)) (sourceOf t) (targetOf t)) s none
-    ≡ endedAt k (stepMade sign xs (stepCarry sign later (k .flags)) t) (eqb (w / 0x1_0000 % 2) 1) (isPair t)
+    ≡ endedAt k (stepMade sign xs (stepCarry sign later (k .flags)) t) w (isPair t)
 unfolding executedOf effectOf registerEffect addressAfter nextOf onwardOf rrOf tsrOf
 executed-is sign later t xs k s w h =
     let c = stepCode sign later (isPair t) in
@@ -111,7 +116,7 @@ executed-is sign later t xs k s w h =
 
 checked-is : (sign : Sign) (later : Bool) (t : Step) (xs : List ℕ) (k : Core) (s : Sample) (w : ℕ) → Fits t
     → checkedOf xs k (fieldsAt w (stepCode sign later (isPair t)) (sourceOf t) (targetOf t)) s none
-    ≡ endedAt k (stepMade sign xs (stepCarry sign later (k .flags)) t) (eqb (w / 0x1_0000 % 2) 1) (isPair t)
+    ≡ endedAt k (stepMade sign xs (stepCarry sign later (k .flags)) t) w (isPair t)
 unfolding checkedOf
 checked-is sign later t xs k s w h =
     rw (refusal-none sign later t h, goes-on (stepCode sign later (isPair t)) (working sign later (isPair t)) s) (executed-is sign later t xs k s w h)
@@ -147,7 +152,7 @@ pub attempt-is : (sign : Sign) (later : Bool) (t : Step) (ws xs : List ℕ) (k :
     → wordAt ws (k .address .lc) % 0x1_0000 ≡ instructionOf sign later t
     → k .latches .marked ≡ false → s .compute ≡ true → s .reset ≡ false
     → attemptOf ws [] xs k s
-    ≡ endedAt k (stepMade sign xs (stepCarry sign later (k .flags)) t) (eqb (wordAt ws (k .address .lc) / 0x1_0000 % 2) 1) (isPair t)
+    ≡ endedAt k (stepMade sign xs (stepCarry sign later (k .flags)) t) (wordAt ws (k .address .lc)) (isPair t)
 unfolding attemptOf attemptedOf fetchedOf
 attempt-is sign later t ws xs k s h l u e m c r =
     let w = wordAt ws (k .address .lc) in

@@ -13,7 +13,7 @@ use Rattle.deck.specs.Sections.{sectionEnd, layoutOf, wholeOf, sectionOf, words
 use Rattle.engine.specs.Host.{reported, hostOf}
 use Rattle.engine.specs.Run.{World, world, samplesFrom}
 use Rattle.state.specs.FlagByte.{flagByteOf, nibbleOf}
-use Rattle.state_bytes.specs.Bytes.{addressOf, latchesOf, coreOf, fileOf}
+use Rattle.state_bytes.specs.Bytes.{stateBytes, addressOf, latchesOf, coreOf, fileOf}
 use Rattle.state_bytes.specs.Range.{addressInRange, latchesInRange, coreInRange, stateInRange}
 use Rattle.sums.specs.Host.{deckStart, DeckReady, handedBack}
 use Rattle.sums.specs.Sums.{Cut, instructionsOf, Fair, Marked, Summed}
@@ -30,7 +30,7 @@ abbrev file : List ℕ
 file = replicate 12 0 ++ (255 ∷ 1 ∷ replicate 12 0)
 
 abbrev before : List ℕ
-before = file ++ replicate 15 0
+before = file ++ replicate 16 0
 
 abbrev word : List ℕ
 word = 0x32 ∷ 0xA1 ∷ 0 ∷ 0 ∷ []
@@ -47,7 +47,7 @@ abbrev requests : List ℕ
 requests = 9 ∷ 9 ∷ 9 ∷ 9 ∷ []
 
 abbrev state : List ℕ
-state = replicate 41 9
+state = replicate stateBytes 9
 
 -- R2 gains R3
 abbrev cut : Cut

@@ -14,7 +14,7 @@ use Rattle.engine.specs.Host.{Hosted, reported, hostOf}
 use Rattle.engine.specs.Run.{World, world, samplesFrom}
 use Rattle.numbers.specs.Numbers.{wordAt, Bytes}
 use Rattle.state.specs.FlagByte.{flagByteOf, nibbleOf}
-use Rattle.state_bytes.specs.Bytes.{addressOf, busOf, latchesOf, coreOf, fileOf, tailOf, bytesOf}
+use Rattle.state_bytes.specs.Bytes.{stateBytes, addressOf, busOf, latchesOf, coreOf, fileOf, tailOf, bytesOf}
 use Rattle.state_bytes.specs.Range.{addressInRange, latchesInRange, coreInRange, stateInRange}
 use Rattle.sums.specs.Host.{deckStart, DeckReady, handedBack, HostBackInOneRun}
 use Rattle.sums.specs.Sums.{Cut, InPlace, Marked, TwoCuts, thereAndBack, BackInOneRun}
@@ -34,24 +34,25 @@ there = byte 2 3 ∷ pair 4 6 ∷ []
 abbrev back : Cut
 back = byte 2 3 ∷ byte 4 6 ∷ byte 5 7 ∷ []
 
--- 2,048 words: A132 at 2046 and AB64 with bit 16 at 2047; and back, B132 at 0, B964 and B975
+-- 2,048 words: A132 with the user bits A at 2046 and AB64 with bit 16 at 2047; and back, B132 at 0, B964 and B975 with the user bits 5
 words : List ℕ
 words =
-    (0x32 ∷ 0xB1 ∷ 0 ∷ 0 ∷ 0x64 ∷ 0xB9 ∷ 0 ∷ 0 ∷ 0x75 ∷ 0xB9 ∷ 0 ∷ 0 ∷ [])
-    ++ (replicate 8172 0 ++ (0x32 ∷ 0xA1 ∷ 0 ∷ 0 ∷ 0x64 ∷ 0xAB ∷ 1 ∷ 0 ∷ []))
+    (0x32 ∷ 0xB1 ∷ 0 ∷ 0 ∷ 0x64 ∷ 0xB9 ∷ 0 ∷ 0 ∷ 0x75 ∷ 0xB9 ∷ 0x14 ∷ 0 ∷ [])
+    ++ (replicate 8172 0 ++ (0x32 ∷ 0xA1 ∷ 0x28 ∷ 0 ∷ 0x64 ∷ 0xAB ∷ 1 ∷ 0 ∷ []))
 
--- a state of R2-R7, the flag byte, LC and RR; all else 0
-abbrev stateWith : ℕ → ℕ → ℕ → ℕ → List ℕ
-stateWith flags low high rr =
-    (replicate 12 0 ++ ((0xFF ∷ 0x02 ∷ 0xFF ∷ 0x80 ∷ 0xFF ∷ 0x80 ∷ []) ++ replicate 8 0)) ++ (0 ∷ flags ∷ low ∷ high ∷ rr ∷ 0 ∷ replicate 9 0)
+-- a state of R2-R7, the flag byte, LC, RR and the outputs; all else 0
+abbrev stateWith : ℕ → ℕ → ℕ → ℕ → ℕ → List ℕ
+stateWith flags low high rr outputs =
+    (replicate 12 0 ++ ((0xFF ∷ 0x02 ∷ 0xFF ∷ 0x80 ∷ 0xFF ∷ 0x80 ∷ []) ++ replicate 8 0))
+    ++ ((0 ∷ flags ∷ low ∷ high ∷ rr ∷ 0 ∷ replicate 9 0) ++ (outputs ∷ []))
 
 -- 80FFFF and 80FF02, with C, and LC 2046; their sum, 01FF01, has a carry and does not fit, so the way back has a borrow and does not fit: N, V, C, NB and
--- C4. LC is past the fifth word, and RR, which was 9, the address after 2047 by bit 16
+-- C4. LC is past the fifth word, RR, which was 9, the address after 2047 by bit 16, and the outputs, which were 3, are the fifth word's
 abbrev before : List ℕ
-before = stateWith 0x10 0xFE 7 9
+before = stateWith 0x10 0xFE 7 9 3
 
 abbrev after : List ℕ
-after = stateWith 0xBA 3 0 0
+after = stateWith 0xBA 3 0 0 5
 
 -- five samples with COMPUTE alone
 abbrev lines : List ℕ
@@ -66,7 +67,7 @@ abbrev requests : List ℕ
 requests = replicate 21 9
 
 abbrev state : List ℕ
-state = replicate 41 9
+state = replicate stateBytes 9
 
 abbrev host : Hosted
 host = hostOf deck requests state
@@ -116,7 +117,7 @@ ready =
       unmarked = rw (read .state) refl;
     }
 
--- ---- so it ends as said above: five attempts and six microcycles, all registers as before, and the rest of the 41 bytes
+-- ---- so it ends as said above: five attempts and six microcycles, all registers as before, and the rest of the state's bytes
 
 both : HostBackInOneRun there back deck requests host
 both = host-back-in-one-run there back deck requests state two ready
@@ -130,14 +131,14 @@ flags =
     let f : Marked minus 3 0x01FF01 0x80FF02 0x80 (handedBack host .core .flags) = rw (read .state) at (both .run .restored .flags) in
     rw (f .nb, f .zb, f .n, f .z, f .v, f .c8, f .c, f .c4)
 
--- what is said of the state says each of its 41 bytes
+-- what is said of the state says each of its bytes
 all-bytes : (w : World) → flagByteOf (w .core .flags) ≡ 0xBA → BackInOneRun there back (wordsPart deck) (deckStart deck requests) w
     → bytesOf (w .file) (w .core) ≡ after
 unfolding words tailOf fileOf coreOf addressOf busOf latchesOf nibbleOf wordAt
 all-bytes w f b =
     let c : BackInOneRun there back words (world (fileOf before) (coreOf before) 0 0 0 requests) w = rw (read .words, read .state) at b in
     let a = c .advanced in
-    rw (f, a .lc, a .rr, a .tsr, a .bus, a .latches, c .restored .registers)
+    rw (f, a .lc, a .rr, a .tsr, a .bus, a .latches, a .outputs, c .restored .registers)
 
 state-after : host .state ≡ after
 state-after = both .handed .state ∙ all-bytes (handedBack host) flags (both .run)

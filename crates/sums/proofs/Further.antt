@@ -1,6 +1,6 @@
 -- Two stretches of a run, one after the other, are one. Assumes nothing.
-use Prim.Native.Nat.{ℕ, zero, suc, _+_, _*_, _/_, _%_, _<_, _≤_}
-use mathlib.Core.Path.{_≡_, refl, _∙_}
+use Prim.Native.Nat.{ℕ, zero, suc, _+_, _*_, _/_, _%_, _^_, _<_, _≤_}
+use mathlib.Core.Path.{_≡_, refl, ap, _∙_}
 use mathlib.Core.Bool.{Bool, true, false}
 use mathlib.Core.List.{List}
 use native.Mathlib.Omega.{arith}
@@ -36,8 +36,8 @@ module _ (n c n′ c′ : ℕ) (ws : List ℕ) (v m w : World) (first : Advanced
           let late = ltb-false i (m .attempts * 4) t in
           second .requests i d late (omega (arith, first .attempts))
 
-  pub further : v .core .address .lc < 2048 → Advanced (n + n′) (c + c′) ws v w
-  further h =
+  pub further : v .core .address .lc < 2048 → 1 ≤ n′ → Advanced (n + n′) (c + c′) ws v w
+  further h some =
       let at = v .core .address .lc in
       record {
         answer = second .answer;
@@ -48,6 +48,7 @@ module _ (n c n′ c′ : ℕ) (ws : List ℕ) (v m w : World) (first : Advanced
         tsr = second .tsr ∙ first .tsr;
         bus = second .bus ∙ first .bus;
         latches = second .latches ∙ first .latches;
+        outputs = second .outputs ∙ ap (λ (a : ℕ). wordAt ws a / 2 ^ 18 % 2 ^ 4) (omega (arith, first .lc));
         requests = places;
         earlier = λ i d l. second .earlier i d (omega (arith, first .attempts)) ∙ first .earlier i d l;
         later = λ i d l. second .later i d (omega (arith, first .attempts)) ∙ first .later i d (omega arith);

@@ -17,7 +17,7 @@ use Rattle.rows.specs.Section.{rowsOf}
 use Rattle.state.specs.Range.{InRange}
 use Rattle.state.specs.declared.Sample.{Sample}
 use Rattle.state_bytes.proofs.Laws.{stored-bytes, bytes-length, bytes-back, file-back, core-back, file-length, state-in-range}
-use Rattle.state_bytes.specs.Bytes.{fileOf, coreOf, bytesOf}
+use Rattle.state_bytes.specs.Bytes.{stateBytes, fileOf, coreOf, bytesOf}
 use Rattle.sums.specs.Host.{deckSamples, deckStart, DeckReady, handedBack, Handed, HostSummed, HostBackInOneRun, HostBackInTwoRuns}
 use Rattle.sums.specs.Sums.{Cut, Sign, byteCount, instructionsOf, Computing, Fair, Ready, Advanced}
 use Rattle.sums.specs.Sums.{TwoCuts, thereAndBack, BackInOneRun, BackInTwoRuns}
@@ -39,7 +39,7 @@ computing-length (s ∷ ss) [] c = absurd c
 computing-length (s ∷ ss) (i ∷ is) c = ap suc (computing-length ss is (c .2))
 
 -- the registers are the first bytes
-first-bytes : (s : List ℕ) → length s ≡ 41 → fileOf s ≡ take 26 s
+first-bytes : (s : List ℕ) → length s ≡ stateBytes → fileOf s ≡ take 26 s
 unfolding fileOf
 first-bytes s e = let enough : 26 ≤ length s = omega arith in rw take-append-le
 
@@ -48,12 +48,12 @@ module _ (is deck requests state : List ℕ) (h : DeckReady is deck requests sta
   let-in = accepted deck (length requests) (length state) (h .accepted)
 
   inside : InRange (fileOf (statePart deck)) (coreOf (statePart deck))
-  inside = state-in-range (statePart deck) (section-bytes deck (layoutOf deck .state) 41 (h .bytes)) (let-in .state)
+  inside = state-in-range (statePart deck) (section-bytes deck (layoutOf deck .state) stateBytes (h .bytes)) (let-in .state)
 
-  pub state-size : length (statePart deck) ≡ 41
+  pub state-size : length (statePart deck) ≡ stateBytes
   state-size =
       let s = statePart deck in
-      ap length (sym (bytes-back s (section-bytes deck (layoutOf deck .state) 41 (h .bytes)) (let-in .state)))
+      ap length (sym (bytes-back s (section-bytes deck (layoutOf deck .state) stateBytes (h .bytes)) (let-in .state)))
       ∙ bytes-length (fileOf s) (coreOf s) (file-length s)
 
   -- what is not refused is in range and has a place for each request
@@ -81,7 +81,7 @@ module _ (is deck requests state : List ℕ) (h : DeckReady is deck requests sta
       ∙ ap (hosted (reported (w .answer) (w .attempts) (w .microcycles)) (w .buffer)) (stored-bytes (w .file) (w .core) state (let-in .buffer-length))
 
   module _ (size : length (sumRun deck requests .file) ≡ 26) where
-    -- its 41 bytes, read again, are that run's state
+    -- its bytes, read again, are that run's state
     pub handed-back : handedBack (hostOf deck requests state) ≡ sumRun deck requests
     handed-back =
         let w = sumRun deck requests in
@@ -113,7 +113,7 @@ host-sum sign cut deck requests state f h =
 -- ---- subtracting after adding
 
 -- registers that are the deck's again as a state are so as bytes
-same-bytes : (s t : List ℕ) → length s ≡ 41 → length t ≡ 41 → fileOf s ≡ fileOf t → take 26 s ≡ take 26 t
+same-bytes : (s t : List ℕ) → length s ≡ stateBytes → length t ≡ stateBytes → fileOf s ≡ fileOf t → take 26 s ≡ take 26 t
 same-bytes s t l l′ e = sym (first-bytes s l) ∙ e ∙ first-bytes t l′
 
 -- one deck with the words of both

@@ -9,6 +9,7 @@ use Rattle.deck.specs.Ranges.{wordsInRange, rowsPartInRange, samplesInRange, de
 use Rattle.deck.specs.Sections.{wholeOf, wordsPart, rowsPart, statePart, samplesPart}
 use Rattle.rows.specs.Range.{rowsInRange}
 use Rattle.rows.specs.Section.{rowsOf}
+use Rattle.state_bytes.specs.Bytes.{stateBytes}
 use Rattle.state_bytes.specs.Range.{stateInRange}
 
 pub record Read (deck ws before lines : List ℕ) : Type 0 where
@@ -24,9 +25,9 @@ no-rows = refl
 
 -- parts in range are let in
 pub let-in : (deck ws before lines : List ℕ) (requests : ℕ) → Read deck ws before lines → stateInRange before ≡ true → wordsInRange ws ≡ true
-    → samplesInRange lines ≡ true → length lines / 4 ≤ requests / 4 → deckRefusalOf deck requests 41 ≡ 0
+    → samplesInRange lines ≡ true → length lines / 4 ≤ requests / 4 → deckRefusalOf deck requests stateBytes ≡ 0
 let-in deck ws before lines requests r s w l p =
-    not-refused deck requests 41
+    not-refused deck requests stateBytes
     (record {
       whole = r .whole;
       buffer-length = refl;

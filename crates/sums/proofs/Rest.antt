@@ -1,6 +1,6 @@
--- What the steps leave beside registers and flags: counts, address, bus, latches, request buffer. Each by induction over them. Assumes nothing.
-use Prim.Native.Nat.{ℕ, _+_, _*_, _%_, _<_, _≤_}
-use mathlib.Core.Path.{_≡_, refl, sym, _∙_}
+-- What the steps leave beside registers and flags: counts, address, bus, latches, outputs, request buffer. Each by induction over them. Assumes nothing.
+use Prim.Native.Nat.{ℕ, _+_, _*_, _/_, _%_, _^_, _<_, _≤_}
+use mathlib.Core.Path.{_≡_, refl, sym, ap, _∙_}
 use mathlib.Core.Bool.{Bool, true, false}
 use mathlib.Core.List.{List, [], _∷_}
 use native.Mathlib.Omega.{arith}
@@ -11,9 +11,10 @@ use borrow.Author.Tests.{eqb-true, eqb-false, ltb-true, ltb-false}
 use Rattle.control.specs.Latches.{used}
 use Rattle.engine.proofs.Places.{put-length, put-other}
 use Rattle.engine.specs.Run.{World, put4Of}
+use Rattle.numbers.specs.Numbers.{wordAt}
 use Rattle.state.specs.declared.Core.{Core}
 use Rattle.state.specs.declared.Latches.{Latches}
-use Rattle.sums.specs.Sums.{Step, Cut, Sign, byteCount, rrAfter}
+use Rattle.sums.specs.Sums.{Step, Cut, Sign, byteCount, rrAfter, lastOutputs}
 use Rattle.sums.specs.Sums.Step.{byte, pair}
 use Rattle.sums.proofs.Run.{stepOn, after}
 
@@ -73,6 +74,13 @@ module _ (sign : Sign) (ws : List ℕ) where
       → after sign later cut ws w .core .address .rr ≡ rrAfter ws (w .core .address .lc) (length cut) (w .core .address .rr)
   rr-is later [] w = refl
   rr-is later (t ∷ ts) w = rr-is true ts (stepOn sign later t ws w)
+
+  pub outputs-are : (later : Bool) (cut : Cut) (w : World) → w .core .address .lc < 2048 → 1 ≤ length cut
+      → after sign later cut ws w .core .outputs ≡ lastOutputs ws (w .core .address .lc) (length cut)
+  outputs-are later [] w h some = absurd (omega arith)
+  outputs-are later (t ∷ []) w h some = ap (λ (at : ℕ). wordAt ws at / 2 ^ 18 % 2 ^ 4) (omega arith)
+  outputs-are later (t ∷ u ∷ ts) w h some =
+      outputs-are true (u ∷ ts) (stepOn sign later t ws w) (omega arith) (omega arith) ∙ ap (λ (at : ℕ). wordAt ws at / 2 ^ 18 % 2 ^ 4) (omega arith)
 
   -- what no step touches
   pub kept-is : {A : Type 0} (part : Core → A) → ((later : Bool) (t : Step) (w : World) → part (stepOn sign later t ws w .core) ≡ part (w .core))

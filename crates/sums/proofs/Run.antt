@@ -1,9 +1,8 @@
 -- A run of a cut's words is its steps one after the other: by induction over them. Assumes nothing.
-use Prim.Native.Nat.{ℕ, _+_, _*_, _/_, _%_, _<_}
+use Prim.Native.Nat.{ℕ, _+_, _*_, _/_, _<_}
 use mathlib.Core.Path.{_≡_, refl, sym, _∙_}
 use mathlib.Core.Bool.{Bool, true, false}
 use mathlib.Core.List.{List, [], _∷_, _++_}
-use lib.Dec.{eqb}
 use lib.ListN.{length, drop}
 use Rattle.alu.specs.declared.Flags.{Flags}
 use Rattle.choose.specs.Ranged.{bit}
@@ -22,7 +21,7 @@ use Rattle.sums.proofs.Cycles.{Fits, stepMade}
 abbrev pub stepOn : Sign → Bool → Step → List ℕ → World → World
 stepOn sign later t ws w =
     let m = stepMade sign (w .file) (stepCarry sign later (w .core .flags)) t in
-    world (m .file) (coreAfter (w .core) (m .back) (eqb (wordAt ws (w .core .address .lc) / 0x1_0000 % 2) 1)) 0 (w .attempts + 1)
+    world (m .file) (coreAfter (w .core) (m .back) (wordAt ws (w .core .address .lc))) 0 (w .attempts + 1)
     (w .microcycles + (1 + bit (isPair t)))
     (put4Of (w .buffer) (w .attempts * 4) 0)
 
@@ -38,11 +37,11 @@ abbrev pub AllFit : Cut → Type 0
 AllFit [] = Unit {0}
 AllFit (t ∷ ts) = Fits t × AllFit ts
 
-stepped-is : (w : World) (k : Core) (m : Leaves Flags) (loads wide : Bool)
-    → steppedOf w (endedAt k m loads wide)
-    ≡ world (m .file) (coreAfter k (m .back) loads) 0 (w .attempts + 1) (w .microcycles + (1 + bit wide)) (put4Of (w .buffer) (w .attempts * 4) 0)
+stepped-is : (w : World) (k : Core) (m : Leaves Flags) (word : ℕ) (wide : Bool)
+    → steppedOf w (endedAt k m word wide)
+    ≡ world (m .file) (coreAfter k (m .back) word) 0 (w .attempts + 1) (w .microcycles + (1 + bit wide)) (put4Of (w .buffer) (w .attempts * 4) 0)
 unfolding steppedOf
-stepped-is w k m loads wide = refl
+stepped-is w k m word wide = refl
 
 -- a cut's steps, from a world with no modification waiting; then what other instructions follow
 module _ (sign : Sign) (ws : List ℕ) (is : List ℕ) where

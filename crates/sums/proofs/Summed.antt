@@ -21,7 +21,8 @@ use Rattle.sums.specs.Sums.Sign.{plus, minus}
 use Rattle.sums.proofs.Codes.{carryIn}
 use Rattle.sums.proofs.Cycles.{oddCodeFlags}
 use Rattle.sums.proofs.Run.{after, run-is, place-left, samples-left}
-use Rattle.sums.proofs.Rest.{answer-is, attempts-are, microcycles-are, lc-is, rr-is, kept-is, latches-are, room-is, requests-other, requests-there}
+use Rattle.sums.proofs.Rest.{answer-is, attempts-are, microcycles-are, lc-is, rr-is, outputs-are, kept-is, latches-are}
+use Rattle.sums.proofs.Rest.{room-is, requests-other, requests-there}
 use Rattle.sums.proofs.Chain.{added, cutMade, made-is, chainFile, file-is, flags-are, chain-length}
 use Rattle.sums.proofs.Chain.{chain-bytes, chain-other, Separate, separate, chain-target, lastCycle, chain-last, zero-is}
 use Rattle.sums.proofs.Numbers.{Last, last-is, result-law, c-law, last-v-law, c4-law, lastByte, sign-law}
@@ -158,6 +159,7 @@ module _ (sign : Sign) (cut : Cut) (is ws : List ℕ) (ss : List Sample) (v : Wo
         tsr = kept-is sign ws (λ (x : Core). x .address .tsr) (λ l t x. refl) false cut v;
         bus = kept-is sign ws (λ (x : Core). x .bus) (λ l t x. refl) false cut v;
         latches = latches-are sign ws false cut v (h .unmarked) (h .unmodified);
+        outputs = outputs-are sign ws false cut v (h .lc) (some-steps cut (f .some));
         requests = λ i d lo hi. requests-there sign ws false cut v i d lo (omega arith) (omega (arith, room));
         earlier = λ i d l. requests-other sign ws false cut v i d (λ lo hi. absurd (omega arith));
         later = λ i d l. requests-other sign ws false cut v i d (λ lo hi. absurd (omega arith));

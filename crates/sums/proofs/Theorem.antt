@@ -14,6 +14,7 @@ use Rattle.sums.specs.Sums.{TwoCuts, thereAndBack, BackInOneRun, BackInT
 use Rattle.sums.specs.Sums.Sign.{plus, minus}
 use Rattle.sums.proofs.Back.{restored}
 use Rattle.sums.proofs.Further.{further}
+use Rattle.sums.proofs.Given.{some-steps}
 use Rattle.sums.proofs.Run.{after}
 use Rattle.sums.proofs.Summed.{summed-after, goes-on, ready-after}
 
@@ -84,7 +85,8 @@ module _ (there back : Cut) (ws : List ℕ) (ss : List Sample) (v : World) (two 
       record {
         restored = restored there back ws ws v between between end two (h .file) (h .bytes) sum refl difference;
         advanced = rw twice at
-            (further (length there) k (length back) (byteCount back) ws v between end (sum .advanced) (difference .advanced) (h .lc));
+            (further (length there) k (length back) (byteCount back) ws v between end (sum .advanced) (difference .advanced) (h .lc)
+            (some-steps back (fair-back there back two .some)));
       }
 
 -- in two: the second begins, with words, samples and a buffer of its own, from the registers that the first left

@@ -10,7 +10,7 @@ use Rattle.engine.specs.Host.{Hosted, reported}
 use Rattle.engine.specs.Run.{World, world, samplesFrom}
 use Rattle.numbers.specs.Numbers.{Bytes}
 use Rattle.state.specs.declared.Sample.{Sample}
-use Rattle.state_bytes.specs.Bytes.{fileOf, coreOf, bytesOf}
+use Rattle.state_bytes.specs.Bytes.{stateBytes, fileOf, coreOf, bytesOf}
 use Rattle.sums.specs.Sums.{Cut, Sign, byteCount, InPlace, Computing, Summed, BackInOneRun, BackInTwoRuns}
 
 -- the samples of a deck
@@ -37,11 +37,11 @@ abbrev pub handedBack : Hosted → World
 handedBack h =
     world (fileOf (h .state)) (coreOf (h .state)) (h .report .answer) (h .report .attempts) (h .report .microcycles) (h .requests)
 
--- all samples used, so many attempts and microcycles; and the 41 bytes are that state's
+-- all samples used, so many attempts and microcycles; and the bytes are that state's
 pub record Handed (attempts microcycles : ℕ) (h : Hosted) : Type 0 where
   pub report : h .report ≡ reported 0 attempts microcycles
   pub state : h .state ≡ bytesOf (handedBack h .file) (handedBack h .core)
-  pub size : length (h .state) ≡ 41
+  pub size : length (h .state) ≡ stateBytes
 
 -- the sum or the difference of what the deck held
 pub record HostSummed (sign : Sign) (cut : Cut) (deck requests : List ℕ) (h : Hosted) : Type 0 where

@@ -201,18 +201,23 @@ abbrev pub rrAfter : List ℕ → ℕ → ℕ → ℕ → ℕ
 rrAfter ws at zero rr = rr
 rrAfter ws at (suc n) rr = rrAfter ws (following at) n (pick (eqb (wordAt ws at / 0x1_0000 % 2) 1) (following at) rr)
 
+-- 02, L1: "the last executed word's four bits", which are bits 18-21: of the last of n words from an address on
+abbrev pub lastOutputs : List ℕ → ℕ → ℕ → ℕ
+lastOutputs ws at n = wordAt ws ((at + (n - 1)) % 2048) / 2 ^ 18 % 2 ^ 4
+
 -- from v to w a run went on by n words, which took so many microcycles
 pub record Advanced (n microcycles : ℕ) (ws : List ℕ) (v w : World) : Type 0 where
   -- all samples used, an attempt for each word
   pub answer : w .answer ≡ 0
   pub attempts : w .attempts ≡ v .attempts + n
   pub spent : w .microcycles ≡ v .microcycles + microcycles
-  -- LC past the words, RR by bit 16; TSR; M, SYNC, IACK; G, TR, ICS, I4-I6, no modification
+  -- LC past the words, RR by bit 16; TSR; M, SYNC, IACK; G, TR, ICS, I4-I6, no modification; the user's outputs
   pub lc : w .core .address .lc ≡ (v .core .address .lc + n) % 2048
   pub rr : w .core .address .rr ≡ rrAfter ws (v .core .address .lc) n (v .core .address .rr)
   pub tsr : w .core .address .tsr ≡ v .core .address .tsr
   pub bus : w .core .bus ≡ v .core .bus
   pub latches : w .core .latches ≡ v .core .latches
+  pub outputs : w .core .outputs ≡ lastOutputs ws (v .core .address .lc) n
   -- requests of kind 0 in the next places, the other places untouched
   pub requests : (i d : ℕ) → v .attempts * 4 ≤ i → i < (v .attempts + n) * 4 → getD (w .buffer) i d ≡ 0
   pub earlier : (i d : ℕ) → i < v .attempts * 4 → getD (w .buffer) i d ≡ getD (v .buffer) i d

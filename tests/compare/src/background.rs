@@ -20,5 +20,6 @@ pub fn state(high: bool, lc: u16) -> State {
         iack: high,
         internal: all as u8 & 7,
         modification: high.then_some(0),
+        outputs: all as u8 & 15,
     }
 }

@@ -1,7 +1,7 @@
 //! A deck taken apart, as far as its counts go; nothing is tested for its range.
 
 use interpreter::decks::{case, Kind};
-use interpreter::section;
+use interpreter::{section, STATE_BYTES};
 
 /// An unlisted word, wherever a vector's own words do not lie: it must not be executed.
 pub const ELSEWHERE: u32 = 0x7800;
@@ -43,7 +43,7 @@ impl<'a> Sections<'a> {
     pub fn of(deck: &'a [u8]) -> Option<Self> {
         let (words, rest) = section(deck, 4)?;
         let (rows, rest) = section(rest, 16)?;
-        let (state, rest) = section(rest, 41)?;
+        let (state, rest) = section(rest, STATE_BYTES)?;
         let (samples, _) = section(rest, 4)?;
         Some(Self {
             words,
@@ -58,7 +58,7 @@ impl<'a> Sections<'a> {
         let sections = [
             (self.words, 4),
             (self.rows, 16),
-            (self.state, 41),
+            (self.state, STATE_BYTES),
             (self.samples, 4),
         ];
         let mut deck = Vec::new();

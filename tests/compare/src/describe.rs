@@ -3,6 +3,7 @@
 use crate::call::Left;
 use crate::fields::{other_fields, register_fields, Field};
 use crate::{flags, lines, listing};
+use interpreter::STATE_BYTES;
 
 /// What a request asks for, by its kind.
 pub const KINDS: [&str; 13] = [
@@ -57,10 +58,10 @@ pub fn request(request: u32) -> String {
     }
 }
 
-/// The fields of a state buffer by name, flags as one. A buffer of another length than 41 has none.
+/// The fields of a state buffer by name, flags as one. A buffer of another length than a state has none.
 pub fn fields(state: &[u8]) -> Vec<Field> {
     let named = |name: &str, value: String| (name.to_string(), value);
-    let state = match <&[u8; 41]>::try_from(state) {
+    let state = match <&[u8; STATE_BYTES]>::try_from(state) {
         Ok(state) => state,
         Err(_) => return vec![named("buffer", format!("{state:02X?}"))],
     };

@@ -1,4 +1,6 @@
-//! The 41 bytes of a state by names and values, as the texts have them.
+//! The bytes of a state by names and values, as the texts have them.
+
+use interpreter::STATE_BYTES;
 
 /// What stands for a modification that is not waiting.
 pub const NONE: &str = "none";
@@ -15,13 +17,13 @@ pub fn registers() -> Vec<String> {
 }
 
 /// The registers.
-pub fn register_fields(state: &[u8; 41]) -> Vec<Field> {
+pub fn register_fields(state: &[u8; STATE_BYTES]) -> Vec<Field> {
     let values = state.iter().map(|value| format!("{value:02X}"));
     registers().into_iter().zip(values).collect()
 }
 
 /// All but registers and flags.
-pub fn other_fields(state: &[u8; 41]) -> Vec<Field> {
+pub fn other_fields(state: &[u8; STATE_BYTES]) -> Vec<Field> {
     let number = |at: usize| u16::from_le_bytes([state[at], state[at + 1]]);
     let bit = |at: usize, bit: u8| (state[at] >> bit & 1).to_string();
     let modification = match (state[37] & 8, number(39)) {
@@ -43,6 +45,7 @@ pub fn other_fields(state: &[u8; 41]) -> Vec<Field> {
         ("I5", bit(38, 1)),
         ("I6", bit(38, 2)),
         ("modification", modification),
+        ("outputs", format!("{:X}", state[41])),
     ];
     let fields = fields.map(|(name, value)| (name.to_string(), value));
     fields.to_vec()

@@ -3,11 +3,11 @@
 use crate::vector::{Term, Vector};
 use compare::call::{Call, Left};
 use compare::deck::words_to;
-use compare::describe::WAIT;
+use compare::describe::{RESET, WAIT};
 use compare::fields::registers;
 use compare::{flags, lines};
 use interpreter::decks::Single;
-use interpreter::{Report, State};
+use interpreter::{Report, State, STATE_BYTES};
 
 /// A call and what it must leave behind.
 pub struct Setting<'a> {
@@ -31,7 +31,7 @@ impl<'a> Setting<'a> {
             state: before.to_bytes(),
             sample: sample(&vector.sample, high)?,
         };
-        let call = Call::patterned(single.deck(), 8, 41);
+        let call = Call::patterned(single.deck(), 8, STATE_BYTES);
         let expected = expected(vector, &call, before)?;
         Ok(Self {
             vector,
@@ -87,6 +87,7 @@ fn set(state: &mut State, name: &str, number: u32) -> Option<()> {
         "I5" => set_bits(&mut state.internal, 2, bit?),
         "I6" => set_bits(&mut state.internal, 4, bit?),
         "MOD" => state.modification = Some(word?),
+        "outputs" => state.outputs = byte?,
         _ => return None,
     }
     Some(())
@@ -97,14 +98,13 @@ fn set_bits(byte: &mut u8, mask: u8, bit: u8) {
     *byte = *byte & !mask | (mask * bit);
 }
 
-/// The sample's four bytes: COMPUTE high, RESET low.
+/// The sample's four bytes: COMPUTE is high and RESET low where they are not named.
 fn sample(terms: &[Term], high: bool) -> Result<[u8; 4], String> {
     let all = if high { 0xFF } else { 0 };
-    let given = lines::REPLY | lines::BUSY | lines::ICS;
-    let mut sample = [all, all, all & given | lines::COMPUTE, all & 15];
+    let rest = lines::REPLY | lines::BUSY | lines::ICS;
+    let mut sample = [all, all, all & rest | lines::COMPUTE, all & 15];
     for (name, number) in terms {
-        let line = lines::line(name).filter(|line| given & line != 0);
-        match (name.as_str(), line, number) {
+        match (name.as_str(), lines::line(name), number) {
             ("DATA", _, 0..=0xFFFF) => {
                 sample[..2].copy_from_slice(&(*number as u16).to_le_bytes());
             }
@@ -135,21 +135,28 @@ fn expected(vector: &Vector, call: &Call, before: State) -> Result<Left, String>
     left.report.microcycles = vector.gives("cycles").ok_or("no cycles")?;
     let request = vector.gives("request").unwrap_or(0);
     left.requests[..4].copy_from_slice(&request.to_le_bytes());
-    if request >> 16 != WAIT {
-        left.state = executed(vector, before)?.to_bytes().to_vec();
-    }
-    Ok(left)
-}
-
-/// The state after the word is executed.
-fn executed(vector: &Vector, before: State) -> Result<State, String> {
-    let mut after = State {
-        lc: (before.lc + 1) % 2048,
-        modification: None,
-        ..before
-    };
+    let mut after = unnamed(request >> 16, before);
     let of_state = |(name, _): &&Term| !matches!(name.as_str(), "cycles" | "request");
     let terms: Vec<Term> = vector.after.iter().filter(of_state).cloned().collect();
     set_all(&mut after, &terms)?;
-    Ok(after)
+    left.state = after.to_bytes().to_vec();
+    Ok(left)
+}
+
+/// The state after an attempt of this kind, as far as a vector names nothing. An executed word
+/// leaves outputs of 0, so that a vector whose word has others must name them.
+fn unnamed(kind: u32, before: State) -> State {
+    match kind {
+        RESET => State {
+            modification: None,
+            ..before
+        },
+        WAIT.. => before,
+        _ => State {
+            lc: (before.lc + 1) % 2048,
+            modification: None,
+            outputs: 0,
+            ..before
+        },
+    }
 }

@@ -79,16 +79,16 @@ fn waits(wait: Wait, sample: Sample) -> bool {
 #[inline]
 fn perform(word: u32, rows: &[Row], state: &mut State, sample: Sample) -> u32 {
     // Rows see the state before the attempt.
-    let outputs = translate(rows, key(word, state, sample));
+    let translated = translate(rows, key(word, state, sample));
     let next = (state.lc + 1) & 2047;
-    let otherwise = if outputs.returns() {
+    let otherwise = if translated.returns() {
         state.rr
     } else {
-        outputs.address().unwrap_or(next)
+        translated.address().unwrap_or(next)
     };
     // Before the execution, so that RTSR and MI have the last word.
     state.modification = None;
-    if let Some(tsr) = outputs.tsr() {
+    if let Some(tsr) = translated.tsr() {
         state.tsr = tsr;
     }
     let done = execute(word, state, sample);
@@ -96,6 +96,7 @@ fn perform(word: u32, rows: &[Row], state: &mut State, sample: Sample) -> u32 {
     if word & LOAD_RR != 0 {
         state.rr = next;
     }
+    state.outputs = (word >> 18) as u8 & 15;
     done.request
 }
 

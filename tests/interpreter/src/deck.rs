@@ -3,7 +3,7 @@
 use crate::attempt::{attempt, Outcome};
 use crate::row::Row;
 use crate::sample::Sample;
-use crate::state::State;
+use crate::state::{State, STATE_BYTES};
 
 /// The most bytes that a deck may have.
 pub const DECK_LIMIT: usize = 65_536;
@@ -32,7 +32,7 @@ struct Deck<'a> {
 struct Sections<'a> {
     words: &'a [u8],
     rows: &'a [u8],
-    state: &'a [u8; 41],
+    state: &'a [u8; STATE_BYTES],
     samples: &'a [u8],
 }
 
@@ -46,7 +46,7 @@ pub fn run(deck: &[u8], requests: &mut [u8], state: &mut [u8]) -> Report {
         attempts: 0,
         microcycles: 0,
     };
-    let opened = match <&mut [u8; 41]>::try_from(state) {
+    let opened = match <&mut [u8; STATE_BYTES]>::try_from(state) {
         Ok(returned) => open(deck, requests.len() / 4).map(|deck| (deck, returned)),
         Err(_) => Err(9),
     };
@@ -113,7 +113,7 @@ fn open(bytes: &[u8], places: usize) -> Result<Deck<'_>, u32> {
 fn sections(bytes: &[u8]) -> Option<Sections<'_>> {
     let (words, rest) = section(bytes, 4)?;
     let (rows, rest) = section(rest, 16)?;
-    let (states, rest) = section(rest, 41)?;
+    let (states, rest) = section(rest, STATE_BYTES)?;
     let (samples, rest) = section(rest, 4)?;
     let state = states.try_into().ok()?;
     rest.is_empty().then_some(Sections {

@@ -21,4 +21,4 @@ pub use attempt::{attempt, Outcome};
 pub use deck::{run, section, Report, DECK_LIMIT};
 pub use row::Row;
 pub use sample::Sample;
-pub use state::{place, State};
+pub use state::{place, State, STATE_BYTES};

@@ -1,5 +1,8 @@
 //! What an attempt starts from and leaves behind.
 
+/// The bytes of a state in a deck, and of the host's state buffer.
+pub const STATE_BYTES: usize = 42;
+
 /// Where the register file holds each designator, by G.
 const FILE: [[u8; 16]; 8] = file();
 
@@ -25,7 +28,7 @@ pub fn place(designator: u8, g: u8) -> usize {
     usize::from(FILE[usize::from(g & 7)][usize::from(designator & 15)])
 }
 
-/// The state, always in range: G, TSR and I4-I6 are 0-7, LC and RR 0-2047.
+/// The state, always in range: G, TSR and I4-I6 are 0-7, LC and RR 0-2047, the outputs 0-15.
 #[derive(Clone, Debug, PartialEq, Eq)]
 pub struct State {
     /// G0-GB, R2-RF.
@@ -54,11 +57,13 @@ pub struct State {
     pub internal: u8,
     /// The waiting modification.
     pub modification: Option<u16>,
+    /// The user's outputs: bits 18-21 of the last executed word, in bits 0-3.
+    pub outputs: u8,
 }
 
 impl State {
-    /// The state in a deck's 41 bytes, or nothing when it is out of range.
-    pub fn from_bytes(bytes: &[u8; 41]) -> Option<Self> {
+    /// The state in a deck's bytes, or nothing when it is out of range.
+    pub fn from_bytes(bytes: &[u8; STATE_BYTES]) -> Option<Self> {
         let number = |at: usize| u16::from_le_bytes([bytes[at], bytes[at + 1]]);
         let [marks, modification] = [u16::from(bytes[37]), number(39)];
         let marked = marks & 8 != 0;
@@ -76,15 +81,17 @@ impl State {
             iack: marks & 4 != 0,
             internal: bytes[38],
             modification: marked.then_some(modification),
+            outputs: bytes[41],
         };
-        let small = state.g < 8 && state.tsr < 8 && state.internal < 8 && marks < 16;
+        let octal = state.g < 8 && state.tsr < 8 && state.internal < 8;
+        let small = octal && marks < 16 && state.outputs < 16;
         let addresses = state.lc < 2048 && state.rr < 2048;
         (small && addresses && (marked || modification == 0)).then_some(state)
     }
 
     /// The state as a deck holds it.
-    pub fn to_bytes(&self) -> [u8; 41] {
-        let mut bytes = [0; 41];
+    pub fn to_bytes(&self) -> [u8; STATE_BYTES] {
+        let mut bytes = [0; STATE_BYTES];
         bytes[..26].copy_from_slice(&self.registers);
         bytes[26] = self.g;
         bytes[27] = self.flags;
@@ -98,7 +105,8 @@ impl State {
             | u8::from(self.iack) << 2
             | u8::from(self.modification.is_some()) << 3;
         bytes[38] = self.internal;
-        bytes[39..].copy_from_slice(&self.modification.unwrap_or(0).to_le_bytes());
+        bytes[39..41].copy_from_slice(&self.modification.unwrap_or(0).to_le_bytes());
+        bytes[41] = self.outputs;
         bytes
     }
 

@@ -111,28 +111,28 @@ mod checked_by_hand {
 
     #[test]
     fn words_2048_and_2049() {
-        let full = deck(&[0xFF00; 2048], &[], &[0; 41], &[COMPUTE]);
-        assert_eq!(ran(&full, 4, 41).numbers(), [0, 1, 1]);
-        let over = deck(&[0xFF00; 2049], &[], &[0; 41], &[COMPUTE]);
-        let ran = ran(&over, 4, 41);
+        let full = deck(&[0xFF00; 2048], &[], &BLANK, &[COMPUTE]);
+        assert_eq!(ran(&full, 4).numbers(), [0, 1, 1]);
+        let over = deck(&[0xFF00; 2049], &[], &BLANK, &[COMPUTE]);
+        let ran = ran(&over, 4);
         assert_eq!(ran.numbers(), [2, 0, 0]);
         assert!(ran.untouched());
     }
 
     #[test]
     fn no_samples() {
-        let mut state = [0; 41];
+        let mut state = BLANK;
         state[0] = 0x77;
-        let ran = ran(&deck(&[], &[], &state, &[]), 0, 41);
+        let ran = ran(&deck(&[], &[], &state, &[]), 0);
         assert_eq!(ran.numbers(), [0, 0, 0]);
         assert_eq!(ran.state, state);
     }
 
     #[test]
     fn the_deck_program_s_example() {
-        let mut state = [0; 41];
+        let mut state = BLANK;
         (state[r(2)], state[r(3)]) = (255, 1);
-        let ran = ran(&deck(&[0xA132], &[], &state, &[COMPUTE]), 4, 41);
+        let ran = ran(&deck(&[0xA132], &[], &state, &[COMPUTE]), 4);
         assert_eq!(ran.numbers(), [0, 1, 1]);
         assert_eq!([ran.state[28], ran.state[29], ran.state[27]], [1, 0, 87]);
     }
@@ -212,6 +212,7 @@ mod attempts {
             iack: true,
             internal: 5,
             modification: Some(0x0101),
+            outputs: 0xA,
         }
     }
 

@@ -2,12 +2,12 @@
 
 mod common;
 
-use common::ran;
+use common::{ran, ran_with};
 use interpreter::decks::{case, single, Case, Kind};
-use interpreter::{attempt, Outcome, Report, Row, Sample, State};
+use interpreter::{attempt, section, Outcome, Report, Row, Sample, State, STATE_BYTES};
 
 fn report(case: &Case) -> Report {
-    ran(&case.deck, case.requests, case.state).report
+    ran_with(&case.deck, case.requests, case.state).report
 }
 
 fn answers(kind: Kind, cases: u64) -> [u32; 10] {
@@ -32,7 +32,7 @@ fn damages_get_their_refusal() {
     let damaging = Kind::Noise as usize + 1;
     for kind in &Kind::ALL[damaging..Kind::ALL.len() - 1] {
         let answer = match *kind as usize {
-            at if at <= Kind::StateModification as usize => 1,
+            at if at <= Kind::StateOutputs as usize => 1,
             at if at <= Kind::WordsMany as usize => 2,
             at if at <= Kind::RowsMany as usize => 3,
             at if at <= Kind::RequestsShort as usize => 4,
@@ -78,6 +78,23 @@ fn long_decks_run_long() {
     assert!(case(Kind::Largest, 1).deck.len() <= 65_536);
 }
 
+#[test]
+fn outputs_are_any_before_and_in_words() {
+    let (mut before, mut in_words) = ([0; 16], [0; 16]);
+    for seed in 0..400 {
+        let deck = case(Kind::Short, seed).deck;
+        let (words, rest) = section(&deck, 4).unwrap();
+        let (_, rest) = section(rest, 16).unwrap();
+        let (state, _) = section(rest, STATE_BYTES).unwrap();
+        before[usize::from(state[41])] += 1;
+        for word in words.chunks(4) {
+            in_words[usize::from(word[2] >> 2)] += 1;
+        }
+    }
+    let all = before.iter().chain(&in_words);
+    assert!(all.min() >= Some(&10), "{before:?} {in_words:?}");
+}
+
 /// Steps a single attempt.
 fn stepped(seed: u64) -> (Outcome, bool) {
     let single = single(seed);
@@ -97,7 +114,7 @@ fn stepped(seed: u64) -> (Outcome, bool) {
         assert_eq!(state, before);
     }
     // Through the host's entry it comes to the same.
-    let ran = ran(&single.deck(), 4, 41);
+    let ran = ran(&single.deck(), 4);
     assert_eq!(ran.state, state.to_bytes());
     match outcome {
         Outcome::Done {

@@ -66,6 +66,7 @@ fn cells(it: &Requirement, vectors: &Path) -> Vec<(&'static str, bool)> {
             (0..=255).all(|low| seen.refusals[low as usize] == it.refusal(low)),
         ),
         ("vectors", it.vectors == count && count >= 3),
+        ("outputs", seen.outputs),
         (
             "facts where it completes",
             it.facts.is_some() != seen.microcycles.is_empty(),

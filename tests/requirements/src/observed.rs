@@ -2,7 +2,7 @@
 
 use compare::describe::WAIT;
 use interpreter::decks::Random;
-use interpreter::{attempt, Outcome, Sample, State};
+use interpreter::{attempt, Outcome, Sample, State, STATE_BYTES};
 use std::ops::RangeInclusive;
 
 /// Gathered over every low byte and many states.
@@ -20,6 +20,8 @@ pub struct Observed {
     pub waits: [bool; 4],
     /// With the same lines.
     pub completes: [bool; 4],
+    /// Whether each completed attempt left bits 18-21 of its word in the outputs, and no other changed them.
+    pub outputs: bool,
 }
 
 /// For each low byte and each pair of REPLY and BUSY.
@@ -34,12 +36,14 @@ impl Observed {
             registers: [true; 8],
             waits: [false; 4],
             completes: [false; 4],
+            outputs: true,
         };
         for top in codes {
             let random = &mut Random::new(u64::from(top));
             for low in 0..256 {
                 for lines in (0..STATES).flat_map(|_| 0..4) {
-                    seen.attempt(u32::from(top) << 8 | low, lines, random);
+                    let user = random.below(16) << 18;
+                    seen.attempt(user | u32::from(top) << 8 | low, lines, random);
                 }
             }
         }
@@ -57,6 +61,7 @@ impl Observed {
             ics: random.one_in(2),
             ..Sample::default()
         };
+        let mut outputs = before.outputs;
         match attempt(&[word], &[], &mut state, sample) {
             Outcome::Refused(number) => self.refusals[word as usize & 255] = number,
             Outcome::Done { request, .. } if request >> 16 == WAIT => self.waits[lines] = true,
@@ -67,8 +72,10 @@ impl Observed {
                 self.completes[lines] = true;
                 self.flags |= before.flags ^ state.flags;
                 self.registers(word, &before, &state);
+                outputs = (word >> 18) as u8;
             }
         }
+        self.outputs &= state.outputs == outputs;
     }
 
     /// By G before the attempt.
@@ -86,10 +93,11 @@ impl Observed {
 
 /// Any state in range with LC 0 and no modification.
 fn state(random: &mut Random) -> State {
-    let mut bytes = [0; 41];
+    let mut bytes = [0; STATE_BYTES];
     bytes[..26].fill_with(|| random.telling_byte());
     bytes[26] = random.byte() & 7;
     bytes[27] = random.byte();
     bytes[37] = random.byte() & 7;
+    bytes[41] = random.byte() & 15;
     State::from_bytes(&bytes).expect("in range")
 }

@@ -6,8 +6,8 @@ use crate::setting::{Sample, Setting};
 use crate::vector::Vector;
 use interpreter::Report;
 
-/// Where the 41 bytes of a state are parted for the eye.
-const PARTS: [usize; 12] = [12, 14, 1, 1, 2, 2, 2, 2, 1, 1, 1, 2];
+/// Where the bytes of a state are parted for the eye.
+const PARTS: [usize; 13] = [12, 14, 1, 1, 2, 2, 2, 2, 1, 1, 1, 2, 1];
 
 /// What a vector's bytes say.
 #[derive(Default)]

@@ -3,6 +3,7 @@
 use crate::choose::Reach;
 use crate::code::{Code, Format};
 use crate::draft::Claim;
+use crate::setting::loaded;
 use crate::vector::Vector;
 use crate::{demands, told};
 use compare::describe::{RESET, WAIT};
@@ -16,11 +17,29 @@ pub fn vector(code: &Code, vector: &Vector) -> Option<String> {
     if !code.has(setting.word()) && !words.any(|&word| code.has(word)) {
         return Some("has no word of its code".to_string());
     }
-    match holds(vector) {
-        Some(true) => None,
-        Some(false) => Some("does not do what its name says".to_string()),
-        None => Some("has no state".to_string()),
+    match (holds(vector), outputs(vector)) {
+        (Some(true), Some(true)) => None,
+        (Some(true), _) => Some("does not tell of the outputs".to_string()),
+        (Some(false), _) => Some("does not do what its name says".to_string()),
+        (None, _) => Some("has no state".to_string()),
     }
+}
+
+/// Whether the outputs are those of the last executed word, or as before where none was; and
+/// whether a word that was tried after it, and not executed, would have loaded others. No word but
+/// the last leads elsewhere than to the next.
+fn outputs(vector: &Vector) -> Option<bool> {
+    let (setting, after) = (&vector.draft.setting, vector.after()?.outputs);
+    let requests = vector.requests();
+    let executed = requests.iter().filter(|&own| own >> 16 < WAIT).count();
+    let word = |step: usize| setting.words.get(usize::from(setting.state.lc) + step);
+    let last = match executed {
+        0 => setting.state.outputs,
+        _ => loaded(*word(executed - 1)?),
+    };
+    let tried = executed == 0 || vector.left.report.answer != 0;
+    let told = !tried || loaded(*word(executed)?) != after;
+    Some(after == last && told)
 }
 
 /// Whether a vector's claim holds.
@@ -52,6 +71,7 @@ fn holds(vector: &Vector) -> Option<bool> {
             let led = State {
                 lc,
                 tsr,
+                outputs: loaded(draft.setting.word()),
                 ..before.clone()
             };
             executed && after == led
@@ -71,6 +91,7 @@ pub fn together(code: &Code, vectors: &[Vector], reach: &Reach) -> Vec<Option<St
         twice(vectors),
         none.then(|| "no vector is executed".to_string()),
         unseen(&executed, reach),
+        stuck(&executed),
         not_opposite(vectors, reach),
     ];
     let demands = demands::all(code);
@@ -104,6 +125,19 @@ fn unseen(executed: &[&Vector], reach: &Reach) -> Option<String> {
         let (never_1, never_0) = (flags::names(never_1), flags::names(never_0));
         format!("never 1: {never_1}; never 0: {never_0}")
     })
+}
+
+/// Whether each of the outputs goes up and goes down, where any word is executed.
+fn stuck(executed: &[&Vector]) -> Option<String> {
+    let before = |own: &Vector| own.draft.setting.state.outputs;
+    let pairs = executed
+        .iter()
+        .filter_map(|own| Some((before(own), own.after()?.outputs)));
+    let (up, down) = pairs.fold((0, 0), |(up, down), (before, after)| {
+        (up | after & !before, down | before & !after)
+    });
+    let whole = executed.is_empty() || (up, down) == (15, 15);
+    (!whole).then(|| "not every output goes up and down".to_string())
 }
 
 /// Whether `other` has flags the other way: of those that are set as many as any operands tried

@@ -4,7 +4,7 @@
 use crate::code::{Code, Format};
 use crate::demand::Demand;
 use crate::draft::Claim::{Executed, Failed, NotTaken, Refused, Reset, Still, Taken, Waits};
-use crate::setting::LOAD_RR;
+use crate::setting::{LOAD_RR, OUTPUTS};
 use compare::lines::{BUSY, COMPUTE, REPLY, RESET};
 
 /// Every code's.
@@ -261,6 +261,8 @@ fn nothing(top: u8) -> Vec<Demand> {
     }
     let mut all: Vec<Demand> = NOP.map(Demand::named).into();
     all.push(Demand::named("bit-16").word(LOAD_RR, LOAD_RR));
+    let output = |bit: u32| Demand::named(format!("bit-{bit}")).word(OUTPUTS, 1 << bit);
+    all.extend([18, 19, 20, 21].map(|bit| output(bit).claim(Executed)));
     all.extend(not_fetched());
     for part in ASKED {
         all.extend(ENDINGS.map(|end| Demand::named(format!("rows-{part}{end}"))));

@@ -24,7 +24,7 @@ pub enum Claim {
     Taken,
     /// The word is executed and LC does not go to its address.
     NotTaken,
-    /// The word is executed, LC and TSR are these after, and all else stays.
+    /// The word is executed, LC and TSR are these after, the outputs its own, and all else stays.
     Led {
         /// LC after.
         lc: u16,

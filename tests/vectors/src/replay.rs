@@ -6,7 +6,7 @@ use compare::deck::Sections;
 use compare::describe::wrong;
 use compare::engine::Engine;
 use compare::tally::Tally;
-use interpreter::Report;
+use interpreter::{Report, STATE_BYTES};
 use std::fs;
 use std::path::{Path, PathBuf};
 
@@ -76,7 +76,7 @@ fn replayed(title: String, bytes: Bytes) -> Option<Replayed> {
         microcycles: number(2)?,
     };
     let samples = Sections::of(&bytes.deck)?.samples.len();
-    let call = Call::patterned(bytes.deck, samples + 4, 41);
+    let call = Call::patterned(bytes.deck, samples + 4, STATE_BYTES);
     let mut requests = call.requests.clone();
     requests
         .get_mut(..bytes.requests.len())?

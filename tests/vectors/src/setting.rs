@@ -3,7 +3,7 @@
 use crate::row::Row;
 use compare::call::{Call, Left};
 use compare::deck::{words_to, Sections};
-use interpreter::State;
+use interpreter::{State, STATE_BYTES};
 
 /// Bit 16 of a word.
 pub const LOAD_RR: u32 = 1 << 16;
@@ -11,6 +11,16 @@ pub const LOAD_RR: u32 = 1 << 16;
 pub const RNI: u32 = 1 << 17;
 /// Bits 18-21.
 pub const OUTPUTS: u32 = 15 << 18;
+
+/// Bits 18-21 of a word that loads these outputs.
+pub fn loading(outputs: u8) -> u32 {
+    u32::from(outputs) << 18
+}
+
+/// The outputs that a word loads.
+pub fn loaded(word: u32) -> u8 {
+    ((word & OUTPUTS) >> 18) as u8
+}
 
 /// A sample.
 #[derive(Clone, Copy)]
@@ -51,8 +61,10 @@ pub struct Setting {
 }
 
 impl Setting {
-    /// One word at the state's LC, and one sample.
+    /// One word at the state's LC, and one sample. The word loads other outputs than there are, each
+    /// of the four, which tells a board that keeps them from one that loads them.
     pub fn single(word: u32, state: State, sample: Sample) -> Self {
+        let word = word | loading(!state.outputs & 15);
         Self {
             words: words_to(state.lc, word),
             rows: Vec::new(),
@@ -108,7 +120,7 @@ impl Setting {
             state: &self.state.to_bytes(),
             samples: &samples,
         };
-        Call::patterned(sections.deck(), samples.len() + 4, 41)
+        Call::patterned(sections.deck(), samples.len() + 4, STATE_BYTES)
     }
 
     /// What the interpreter leaves behind.

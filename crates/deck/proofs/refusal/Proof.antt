@@ -3,6 +3,7 @@ use mathlib.Core.Path.{_≡_, _∙_}
 use mathlib.Core.Bool.{true, _&&_}
 use borrow.Author.Tests.{not-true, not-false}
 use lib.Dec.{eqb}
+use Rattle.state_bytes.specs.Bytes.{stateBytes}
 use Rattle.state_bytes.specs.Range.{stateInRange}
 use Rattle.deck.specs.Ranges.{wordsInRange, rowsPartInRange, samplesInRange, placesEnough}
 use Rattle.deck.specs.Layouts.{wholeBy, between, refusalBy}
@@ -12,7 +13,7 @@ use Rattle.deck.proofs.refusal.Tie as tie
 
 -- each test is that of the definition
 whole-is : (c : tie.After-whole) → let args = c .before .before .args in
-    wholeBy (args .deck .now) (args .l) && eqb (args .state-len) 41 ≡ c .whole .result && eqb (args .state-len) 41
+    wholeBy (args .deck .now) (args .l) && eqb (args .state-len) stateBytes ≡ c .whole .result && eqb (args .state-len) stateBytes
 whole-is c = rw (c .whole .ensures)
 
 state-is : (c : tie.After-in-range) → let args = c .before .before .before .before .before .args in
@@ -36,7 +37,7 @@ samples-is c = rw (c .samples-in-range .ensures, c .before .samples .ensures)
 
 -- and holds where the next one is made
 whole-holds : (c : tie.Else1) → let args = c .before .before .before .args in
-    wholeBy (args .deck .now) (args .l) && eqb (args .state-len) 41 ≡ true
+    wholeBy (args .deck .now) (args .l) && eqb (args .state-len) stateBytes ≡ true
 whole-holds c = whole-is (c .before) ∙ not-false _ (c .if1 .left)
 
 state-holds : (c : tie.Else2) → let args = c .before .before .before .before .before .before .args in

@@ -1,5 +1,6 @@
 -- `deck::section_end` meets its contract: a section is far smaller than a number can say. Assumes nothing.
 use native.Mathlib.Omega.{arith}
+use Rattle.state_bytes.specs.Bytes.{stateBytes}
 use Rattle.deck.specs.Sections.{sectionEnd}
 use Rattle.deck.proofs.Laws.{product-le}
 use Prim.Native.Nat.{_*_, _≤_}
@@ -7,7 +8,7 @@ use borrow.Author.Needs.{needs}
 use Rattle.deck.proofs.section_end.Statement.{statement}
 use Rattle.deck.proofs.section_end.Tie as tie
 
-size : (c : tie.After-pair-at) → c .before .before .args .size * c .pair-at .result ≤ 2686935
+size : (c : tie.After-pair-at) → c .before .before .args .size * c .pair-at .result ≤ stateBytes * 65535
 size c = product-le (c .before .before .args .size) (c .pair-at .result) (omega arith) (omega arith)
 
 mul-result : tie.Need-mul-result

@@ -8,9 +8,15 @@ returns : tie.Need-returns
 unfolding coreOf
 returns c =
     let two = c .before .before in
-    let three = two .before in
-    let four = three .before in
-    rw (three .flags-in .ensures, four .byte-at .ensures, two .address-in .ensures, c .before .bus-in .ensures, c .latches-in .ensures)
+    let four = two .before .before in
+    rw (
+      four .flags-in .ensures,
+      four .before .byte-at .ensures,
+      two .before .address-in .ensures,
+      two .bus-in .ensures,
+      c .before .latches-in .ensures,
+      c .byte-at2 .ensures,
+    )
 
 pub core-in-spec : {M : Type 1} → statement M
-core-in-spec = tie.close (tie.spec (search needs) (search needs) (search needs) (search needs) (search needs) returns)
+core-in-spec = tie.close (tie.spec (search needs) (search needs) (search needs) (search needs) (search needs) (search needs) returns)

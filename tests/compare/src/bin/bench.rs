@@ -6,6 +6,7 @@
 use compare::call::Call;
 use compare::deck::{largest, Sections};
 use compare::engine::Engine;
+use interpreter::STATE_BYTES;
 use std::ops::Range;
 use std::process::{Command, ExitCode};
 use std::time::Instant;
@@ -86,7 +87,7 @@ fn decks(seeds: Range<u64>, rows: usize) -> Vec<Call> {
     decks
         .map(|deck| {
             let room = deck.len();
-            Call::patterned(deck, room, 41)
+            Call::patterned(deck, room, STATE_BYTES)
         })
         .collect()
 }
@@ -98,7 +99,7 @@ fn attempts(calls: &[Call]) -> u32 {
 
 /// A deck without words, rows and samples.
 fn empty() -> Call {
-    let state = &[0; 41];
+    let state = &[0; STATE_BYTES];
     let [words, rows, samples] = [&[]; 3];
     let sections = Sections {
         words,
@@ -106,7 +107,7 @@ fn empty() -> Call {
         state,
         samples,
     };
-    Call::patterned(sections.deck(), 0, 41)
+    Call::patterned(sections.deck(), 0, STATE_BYTES)
 }
 
 /// Prints a line of what engine and interpreter take; whether its ratio is as it has to be.

@@ -2,7 +2,10 @@
 
 use super::draft::Draft;
 use super::{parts, Case, Kind, Random};
-use crate::DECK_LIMIT;
+use crate::{DECK_LIMIT, STATE_BYTES};
+
+/// The bytes of a state before it had the outputs.
+const OLD_BYTES: usize = 41;
 
 /// Damages a field of the sections. Kinds that damage none leave them.
 pub(super) fn fields(kind: Kind, draft: &mut Draft, random: &mut Random) {
@@ -13,7 +16,8 @@ pub(super) fn fields(kind: Kind, draft: &mut Draft, random: &mut Random) {
         | Kind::StateTsr
         | Kind::StateMarks
         | Kind::StateInternal
-        | Kind::StateModification => state(kind, &mut draft.state, random),
+        | Kind::StateModification
+        | Kind::StateOutputs => state(kind, &mut draft.state, random),
         Kind::WordRange => {
             let at = random.below(draft.words.len() as u32) as usize;
             draft.words[at] |= 1 << (22 + random.below(10));
@@ -43,7 +47,7 @@ fn any<'a, T>(items: &'a mut [T], random: &mut Random) -> &'a mut T {
     &mut items[random.below(items.len() as u32) as usize]
 }
 
-fn state(kind: Kind, state: &mut [u8; 41], random: &mut Random) {
+fn state(kind: Kind, state: &mut [u8; STATE_BYTES], random: &mut Random) {
     match kind {
         Kind::StateG => state[26] |= 8 << random.below(5),
         Kind::StateLc => state[29] |= 8 << random.below(5),
@@ -51,6 +55,7 @@ fn state(kind: Kind, state: &mut [u8; 41], random: &mut Random) {
         Kind::StateTsr => state[36] |= 8 << random.below(5),
         Kind::StateMarks => state[37] |= 16 << random.below(4),
         Kind::StateInternal => state[38] |= 8 << random.below(5),
+        Kind::StateOutputs => state[41] |= 16 << random.below(4),
         _ => {
             state[37] &= !8;
             state[39 + random.below(2) as usize] |= 1 << random.below(8);
@@ -113,8 +118,12 @@ pub(super) fn lengths(kind: Kind, draft: &Draft, case: &mut Case, random: &mut R
         Kind::WordCount => miscount(draft.counts()[0], case, random),
         Kind::RowCount => miscount(draft.counts()[1], case, random),
         Kind::StateCount => states(draft.counts()[2], case, random),
+        Kind::StateOld => without_outputs(draft.counts()[2], case),
         Kind::SampleCount => miscount(draft.counts()[3], case, random),
-        Kind::StateBuffer => case.state = random.pick(&[0, 1, 40, 42, 82, 4096]),
+        Kind::StateBuffer => {
+            let wrong = [0, 1, OLD_BYTES, STATE_BYTES + 1, 2 * STATE_BYTES, 4096];
+            case.state = random.pick(&wrong);
+        }
         _ => {}
     }
 }
@@ -142,12 +151,20 @@ fn states(at: usize, case: &mut Case, random: &mut Random) {
         Some(place) => place.copy_from_slice(&count.to_le_bytes()),
         None => return,
     }
+    let bytes = at + 2..at + 2 + STATE_BYTES;
     if let (0..=3, true, Some(state)) = (
         count,
         random.one_in(2),
-        case.deck.get(at + 2..at + 43).map(<[u8]>::to_vec),
+        case.deck.get(bytes.clone()).map(<[u8]>::to_vec),
     ) {
-        case.deck
-            .splice(at + 2..at + 43, state.repeat(count.into()));
+        case.deck.splice(bytes, state.repeat(count.into()));
+    }
+}
+
+/// Takes the outputs away from the state after this count.
+fn without_outputs(at: usize, case: &mut Case) {
+    let outputs = at + 2 + OLD_BYTES..at + 2 + STATE_BYTES;
+    if outputs.end <= case.deck.len() {
+        case.deck.drain(outputs);
     }
 }

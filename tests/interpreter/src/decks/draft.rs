@@ -1,12 +1,13 @@
 //! A deck before it becomes bytes.
 
 use super::{parts, Random};
+use crate::STATE_BYTES;
 
 /// The four sections.
 pub(super) struct Draft {
     pub(super) words: Vec<u32>,
     pub(super) rows: Vec<[u8; 16]>,
-    pub(super) state: [u8; 41],
+    pub(super) state: [u8; STATE_BYTES],
     pub(super) samples: Vec<[u8; 4]>,
 }
 
@@ -40,7 +41,7 @@ impl Draft {
     pub(super) fn counts(&self) -> [usize; 4] {
         let rows = 2 + 4 * self.words.len();
         let state = rows + 2 + 16 * self.rows.len();
-        [0, rows, state, state + 2 + 41]
+        [0, rows, state, state + 2 + STATE_BYTES]
     }
 }
 

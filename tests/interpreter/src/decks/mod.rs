@@ -12,6 +12,7 @@ mod single;
 pub use random::Random;
 pub use single::{single, Single};
 
+use crate::STATE_BYTES;
 use draft::Draft;
 
 /// One input of [`run`](crate::run).
@@ -59,6 +60,8 @@ pub enum Kind {
     StateInternal,
     /// State: modification bits without the mark.
     StateModification,
+    /// State: the outputs above 15.
+    StateOutputs,
 
     /// Words: one of 2^22 or more.
     WordRange,
@@ -111,9 +114,11 @@ pub enum Kind {
     RowCount,
     /// A state count other than 1, with or without the bytes for it.
     StateCount,
+    /// A state of 41 bytes, without the outputs, as decks had it before them.
+    StateOld,
     /// A count of samples that the bytes do not bear out.
     SampleCount,
-    /// A state buffer of another length than 41.
+    /// A state buffer of another length than a state.
     StateBuffer,
 
     /// Several damages at once, which shows the order of refusals.
@@ -122,7 +127,7 @@ pub enum Kind {
 
 impl Kind {
     /// Every kind.
-    pub const ALL: [Kind; 42] = [
+    pub const ALL: [Kind; 44] = [
         Kind::Short,
         Kind::Long,
         Kind::Largest,
@@ -138,6 +143,7 @@ impl Kind {
         Kind::StateMarks,
         Kind::StateInternal,
         Kind::StateModification,
+        Kind::StateOutputs,
         Kind::WordRange,
         Kind::WordsMany,
         Kind::RowLcMask,
@@ -162,6 +168,7 @@ impl Kind {
         Kind::WordCount,
         Kind::RowCount,
         Kind::StateCount,
+        Kind::StateOld,
         Kind::SampleCount,
         Kind::StateBuffer,
         Kind::Several,
@@ -179,7 +186,7 @@ pub fn case(kind: Kind, seed: u64) -> Case {
     let mut case = Case {
         deck: draft.bytes(),
         requests: 4 * draft.samples.len(),
-        state: 41,
+        state: STATE_BYTES,
     };
     for &damage in damages {
         damage::lengths(damage, &draft, &mut case, random);

@@ -2,6 +2,7 @@
 
 use super::Random;
 use crate::code::CODES;
+use crate::STATE_BYTES;
 
 /// A program of listed codes with legal designators that stays inside its words.
 pub(super) fn program(random: &mut Random, count: usize) -> Vec<u32> {
@@ -118,8 +119,8 @@ pub(super) fn row(random: &mut Random, words: usize) -> [u8; 16] {
 }
 
 /// A state whose LC and RR lie among so many words.
-pub(super) fn state(random: &mut Random, words: usize) -> [u8; 41] {
-    let mut state = [0; 41];
+pub(super) fn state(random: &mut Random, words: usize) -> [u8; STATE_BYTES] {
+    let mut state = [0; STATE_BYTES];
     for register in &mut state[..26] {
         *register = random.telling_byte();
     }
@@ -135,12 +136,14 @@ pub(super) fn state(random: &mut Random, words: usize) -> [u8; 41] {
     }
     state[36] = random.below(8) as u8;
     state[37] = random.below(8) as u8;
-    state[38] = random.below(8) as u8;
+    // Both from one draw, so that the rest of a seed's deck does not depend on the outputs.
+    let drawn = random.below(8 * 16) as u8;
+    (state[38], state[41]) = (drawn / 16, drawn % 16);
     state
 }
 
 /// Marks a waiting modification, sometimes of no bits.
-pub(super) fn modify(random: &mut Random, state: &mut [u8; 41]) {
+pub(super) fn modify(random: &mut Random, state: &mut [u8; STATE_BYTES]) {
     let bits = match random.below(4) {
         0 => 0,
         1 => random.bits() as u16,
@@ -148,7 +151,7 @@ pub(super) fn modify(random: &mut Random, state: &mut [u8; 41]) {
         _ => 1 << random.below(16),
     };
     state[37] |= 8;
-    state[39..].copy_from_slice(&bits.to_le_bytes());
+    state[39..41].copy_from_slice(&bits.to_le_bytes());
 }
 
 /// A sample, COMPUTE nearly always high and RESET once in so many.

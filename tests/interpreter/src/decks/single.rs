@@ -2,6 +2,7 @@
 
 use super::draft::Draft;
 use super::{parts, Random};
+use crate::STATE_BYTES;
 
 /// One attempt in range, each part as a deck holds it.
 #[derive(Clone, Debug)]
@@ -11,7 +12,7 @@ pub struct Single {
     /// Rows, some made to match.
     pub rows: Vec<[u8; 16]>,
     /// The state.
-    pub state: [u8; 41],
+    pub state: [u8; STATE_BYTES],
     /// The sample.
     pub sample: [u8; 4],
 }
@@ -70,7 +71,7 @@ pub fn single(seed: u64) -> Single {
 }
 
 /// A row, made to match this attempt more often than not.
-fn row(random: &mut Random, word: u32, state: &[u8; 41], sample: [u8; 4]) -> [u8; 16] {
+fn row(random: &mut Random, word: u32, state: &[u8; STATE_BYTES], sample: [u8; 4]) -> [u8; 16] {
     let mut row = parts::row(random, 2048);
     row[14] = random.below(8) as u8;
     let tr = if state[36] & 4 == 0 {

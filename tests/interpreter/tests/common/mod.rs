@@ -1,11 +1,14 @@
 //! Short ways to set up one attempt.
 #![allow(dead_code)]
 
-use interpreter::{attempt, run, Outcome, Report, Row, Sample, State};
+use interpreter::{attempt, run, Outcome, Report, Row, Sample, State, STATE_BYTES};
+
+/// A state's bytes, all zero.
+pub const BLANK: [u8; STATE_BYTES] = [0; STATE_BYTES];
 
 /// All zero.
 pub fn blank() -> State {
-    State::from_bytes(&[0; 41]).unwrap()
+    State::from_bytes(&BLANK).unwrap()
 }
 
 /// All zero but LC and RR.
@@ -140,7 +143,7 @@ impl Fields {
 }
 
 /// A deck's bytes.
-pub fn deck(words: &[u32], rows: &[[u8; 16]], state: &[u8; 41], samples: &[[u8; 4]]) -> Vec<u8> {
+pub fn deck(words: &[u32], rows: &[[u8; 16]], state: &[u8], samples: &[[u8; 4]]) -> Vec<u8> {
     let mut deck = Vec::new();
     deck.extend((words.len() as u16).to_le_bytes());
     deck.extend(words.iter().flat_map(|word| word.to_le_bytes()));
@@ -179,8 +182,13 @@ impl Ran {
     }
 }
 
+/// Runs a deck with a request buffer of this length.
+pub fn ran(deck: &[u8], requests: usize) -> Ran {
+    ran_with(deck, requests, STATE_BYTES)
+}
+
 /// Runs a deck with buffers of these lengths.
-pub fn ran(deck: &[u8], requests: usize, state: usize) -> Ran {
+pub fn ran_with(deck: &[u8], requests: usize, state: usize) -> Ran {
     let mut requests = vec![0xA5; requests];
     let mut state = vec![0xA5; state];
     let report = run(deck, &mut requests, &mut state);

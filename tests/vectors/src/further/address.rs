@@ -6,8 +6,8 @@ use crate::operands::Operands;
 use compare::lines::{BUSY, REPLY};
 use compare::listing::Waits;
 
-/// LL of 00 to R2.
-const LOAD: u32 = 0x6002;
+/// LL of 00 to R2, with the outputs 5.
+const LOAD: u32 = 0x14_6002;
 
 /// Drafts for a code on Rb:Ra.
 pub fn drafts(code: &Code, ordinary: &Operands) -> Vec<Draft> {

@@ -6,7 +6,7 @@ use crate::background::Background::{High, Low};
 use crate::code::Code;
 use crate::draft::{Claim, Draft};
 use crate::row::{Part, Row};
-use crate::setting::{Setting, LOAD_RR, OUTPUTS, RNI};
+use crate::setting::{Setting, LOAD_RR, RNI};
 use compare::lines::{COMPUTE, RESET};
 
 /// NOP.
@@ -34,6 +34,7 @@ pub fn nothing(code: &Code) -> Vec<Draft> {
         ),
     ];
     drafts.extend(by_bits(code));
+    drafts.extend(by_output(code));
     drafts.extend(by_rows(at(code, 0, 5, Low)));
     drafts.extend(rows::drafts(code));
     drafts.extend(not_fetched(&at(code, 0, 0x010, High)));
@@ -54,10 +55,25 @@ fn by_bits(code: &Code) -> Vec<Draft> {
         ),
         Draft::executed(
             "user-outputs",
-            at(code, OUTPUTS, 0, Low),
-            "Bits 18-21 are the user's outputs and change nothing here.",
+            outputs(code, 0x5),
+            "Bits 18-21 are the user's outputs: each takes its bit, whatever it was before.",
         ),
     ]
+}
+
+/// The word that loads these outputs, each being the other before.
+fn outputs(code: &Code, outputs: u8) -> Setting {
+    let mut state = Low.state();
+    state.outputs = !outputs & 15;
+    Setting::single(u32::from(code.top) << 8, state, Low.sample(code))
+}
+
+/// Each of the user's outputs alone.
+fn by_output(code: &Code) -> [Draft; 4] {
+    [18, 19, 20, 21].map(|bit| {
+        let shows = format!("Bit {bit} alone is 1: its output goes up, the other three go down.");
+        Draft::executed(&format!("bit-{bit}"), outputs(code, 1 << (bit - 18)), shows)
+    })
 }
 
 /// What rows make of the next LC, and of TSR.
@@ -90,7 +106,8 @@ pub fn not_fetched(setting: &Setting) -> Vec<Draft> {
         own
     };
     let stopped = "COMPUTE is low: no word is fetched and nothing changes.";
-    let reset = "RESET wins over COMPUTE low; LC is set, and SYNC, IACK and the modification go.";
+    let reset =
+        "RESET wins over COMPUTE low: LC is set, SYNC, IACK and modification go, outputs stay.";
     vec![
         Draft::new("compute-low", Claim::Still, with(COMPUTE, 0), stopped),
         Draft::new("reset", Claim::Reset, with(COMPUTE, RESET), reset),

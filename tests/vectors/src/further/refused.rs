@@ -7,8 +7,8 @@ use crate::code::Code;
 use crate::draft::{Claim, Draft};
 use crate::setting::Setting;
 
-/// NOP.
-const NOP: u32 = 0xFF00;
+/// NOP with the outputs 5.
+const NOP: u32 = 0x14_FF00;
 
 /// Drafts for a code that is always refused.
 pub fn drafts(code: &Code) -> Vec<Draft> {
@@ -31,7 +31,7 @@ pub fn drafts(code: &Code) -> Vec<Draft> {
         refused(
             "second",
             second(code),
-            "A NOP first: its attempt, its cost and its place count, then the refusal.",
+            "A NOP first: its attempt, its cost, its place and its outputs count, then the refusal.",
         ),
         refused(
             "modified",

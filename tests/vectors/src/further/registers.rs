@@ -19,7 +19,7 @@ pub fn input(code: &Code, ordinary: &Operands) -> Option<Draft> {
             Claim::Failed,
             high(code, &turned),
             format!(
-                "As `ordinary`, but {input} is 0, all else high: registers, flags and cycles stay."
+                "As `ordinary`, but {input} is 0, all else high: registers, flags and cycles stay, not the outputs."
             ),
         ),
         false => Draft::executed(

@@ -2,6 +2,7 @@
 
 use compare::call::Call;
 use interpreter::decks::{self, Kind};
+use interpreter::STATE_BYTES;
 use std::fmt;
 
 /// How many single attempts there are: as many of each of the 256 top bytes.
@@ -26,7 +27,7 @@ impl Case {
             // Up to a place more than is needed.
             None => {
                 let room = 4 + self.seed as usize % 5;
-                Call::patterned(decks::single(self.seed).deck(), room, 41)
+                Call::patterned(decks::single(self.seed).deck(), room, STATE_BYTES)
             }
         }
     }

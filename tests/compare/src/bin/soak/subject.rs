@@ -4,6 +4,7 @@ use compare::call::{Call, Left};
 use compare::deck::{largest, Sections};
 use compare::describe::differences;
 use compare::driver::Asked;
+use interpreter::STATE_BYTES;
 use std::fs::File;
 use std::io::{self, Read, Write};
 
@@ -35,7 +36,7 @@ impl Subject {
             None => 0,
         };
         // A place more than the samples have: it stays as found.
-        let call = Call::patterned(deck, samples + 4, 41);
+        let call = Call::patterned(deck, samples + 4, STATE_BYTES);
         let interpreted = call.interpreted();
         if interpreted.report.answer == 9 {
             return Err(format!("{name}: not a deck, answer 9"));
