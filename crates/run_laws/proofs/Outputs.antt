@@ -2,7 +2,7 @@
 -- Assumes nothing.
 use mathlib.Core.Path.{_≡_, refl, ap, _∙_}
 use mathlib.Core.List.{List}
-use Prim.Native.Nat.{ℕ, zero, suc, _+_, _-_, _/_, _%_, _^_, _<_, _≤_}
+use Prim.Native.Nat.{ℕ, zero, suc, _+_, _-_, _/_, _%_, _^_, _≤_}
 use native.Mathlib.Omega.{arith}
 use lib.ListN.{length}
 use Rattle.attempt_laws.specs.After.{outputsAfter}
@@ -17,9 +17,9 @@ use Rattle.rows.specs.declared.Row.{Row}
 use Rattle.state.specs.File.{Leaves}
 use Rattle.state.specs.declared.Core.{Core}
 use Rattle.state.specs.declared.Sample.{Sample}
-use Rattle.state_bytes.specs.Bytes.{coreOf, tailOf, bytesOf}
+use Rattle.state_bytes.specs.Bytes.{coreOf, tailOf}
 use Rattle.state_bytes.proofs.Laws.{tail-at}
-use Rattle.run_laws.specs.Attempts.{stateAfter, completesAt, NoneCompletes, LastCompleted}
+use Rattle.run_laws.specs.Attempts.{stateAfter, NoneCompletes, LastCompleted}
 use Rattle.run_laws.specs.Returned.{sampleCount, stateIn, LastCompletedIn, NoneCompletesIn, Returned}
 use Rattle.run_laws.proofs.Returned.{state-each}
 
@@ -57,7 +57,7 @@ module _ (ws : List ℕ) (rs : List Row) (at : ℕ → Sample) (first : Leaves C
   pub outputs-last : (i n : ℕ) → LastCompleted ws rs at first i n → outputs n ≡ takenWord ws (stateAfter ws rs at first i .back) / 2 ^ 18 % 2 ^ 4
   outputs-last i n (l, completes, none) =
       let all : suc i + (n - suc i) ≡ n = omega arith in
-      rw all at (kept (suc i) (n - suc i) (λ j lo hi. none j lo (omega arith)))
+      rw all at (kept (suc i) (n - suc i) (λ j lo hi. none j (omega arith) (omega arith)))
       ∙ one-more i
       ∙ rw completes
 
@@ -81,4 +81,4 @@ module _ (deck requests state : List ℕ) (b : Bytes deck) (h : deckRefusalOf de
 
   pub host-outputs-start : NoneCompletesIn deck n → byteAt (hostOf deck requests state .state) 41 ≡ byteAt (statePart deck) 41
   unfolding coreOf
-  host-outputs-start none = last-byte ∙ outputs-start _ _ _ _ n none
+  host-outputs-start none = last-byte ∙ outputs-start _ _ _ _ n (λ j lo. none j (omega arith))

@@ -35,14 +35,14 @@ module _ (ws : List ℕ) (rs : List Row) (at : ℕ → Sample) (first : Leaves C
   attemptAt i = attemptFrom ws rs (stateAfter i) (at i)
 
   -- attempt i completes its word; none does from attempt i on; attempt i is the last that does, of n
-  abbrev pub completesAt : ℕ → Type 0
-  completesAt i = fateOf ws (stateAfter i .back) (at i) ≡ completed
+  abbrev pub CompletesAt : ℕ → Type 0
+  CompletesAt i = fateOf ws (stateAfter i .back) (at i) ≡ completed
 
   abbrev pub NoneCompletes : ℕ → ℕ → Type 0
-  NoneCompletes i n = (j : ℕ) → i ≤ j → j < n → completesAt j → ⊥
+  NoneCompletes i n = (j : ℕ) → i ≤ j → j < n → CompletesAt j → ⊥
 
   abbrev pub LastCompleted : ℕ → ℕ → Type 0
-  LastCompleted i n = (i < n) × completesAt i × NoneCompletes (suc i) n
+  LastCompleted i n = (i < n) × CompletesAt i × NoneCompletes (suc i) n
 
 abbrev pub stateOf : World → Leaves Core
 stateOf w = leaves (w .file) (w .core)
