@@ -25,7 +25,7 @@
      32-33 TR          34-35 M             36 TSR (0-7)
      37 marks: bit 0 ICS, 1 SYNC, 2 IACK, 3 a modification is waiting
      38 I4-I6 in bits 0-2                  39-40 the modification, zero without its mark
-     41 the user's outputs (0-15): bits 18-21 of the last executed word
+     41 the user's outputs (0-15): bits 18-21 of the last executed word, bit 18 in bit 0
 
    A SAMPLE. Every attempt uses up one.
 

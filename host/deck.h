@@ -9,7 +9,7 @@
 typedef struct {
     unsigned words, rows, samples; /* counts */
     const uint8_t *word;           /* the first word */
-    const uint8_t *state;          /* its bytes */
+    const uint8_t *state;          /* the state's first byte */
     const uint8_t *sample;         /* the first sample */
 } sections;
 

@@ -35,8 +35,8 @@ whenRefused xs k number = leaves xs (outcomeOf k 0 0 number)
 abbrev pub whenIdle : List ℕ → Core → ℕ → Leaves Outcome
 whenIdle xs k kind = leaves xs (outcomeOf k (placed kind 0) 1 0)
 
--- an executed word: its effect, the next address by the way it goes and the rows' outputs, and its four user bits: "The state keeps the last executed
--- word's four bits"
+-- an executed word: its effect, the next address by the way it goes and the rows' outputs, and its four user bits: 02, L1, "The state keeps the last
+-- executed word's four bits"
 unfoldable pub executedOf : List ℕ → Core → Fields → Sample → Outputs → Leaves Outcome
 executedOf xs k w sample o =
     let e = effectOf xs k (w .code) (w .operands) sample in

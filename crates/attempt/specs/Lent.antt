@@ -24,7 +24,7 @@ use Rattle.attempt.specs.declared.Outcome.{Outcome}
 use Rattle.attempt.specs.Effect.{jumpedOf, literalEffect, registerEffect}
 use Rattle.attempt.specs.Attempt.{outcomeOf, whenRefused, whenIdle, resetOf, modifiedOf}
 
--- an executed word: its effect, the next address, and the cycles of its row
+-- an executed word: its effect, the next address, its user bits, and the cycles of its row
 unfoldable pub doneBy : CodeRow → Core → Fields → Effect → Outputs → Outcome
 doneBy row k w e o =
     outcomeOf

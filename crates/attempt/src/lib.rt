@@ -183,7 +183,7 @@ fn outcome_of(core: Core, request: u32, cycles: u8, refusal: u8) -> Outcome
     }
 }
 
-// An executed word: its effect, the next address, and the cycles that its row gives.
+// An executed word: its effect, the next address, its user bits, and the cycles that its row gives.
 fn done(row: CodeRow, core: Core, fields: Fields, e: Effect, o: Outputs) -> Outcome
     ensures { λ r. ⌜ r ≡ doneBy row core fields e o ⌝ }
 {

@@ -1,4 +1,5 @@
--- Every part of the state after a completed word but registers and flags, its request and its microcycles, by 01's sentences. Assumes nothing.
+-- Every part of the state after a completed word but registers and flags, its request and its microcycles, by 01's sentences; the user's outputs after any
+-- attempt. Assumes nothing.
 use Prim.Native.Nat.{ℕ, _*_, _/_, _≤_, _<_}
 use mathlib.Core.Path.{_≡_, refl, sym}
 use mathlib.Core.Bool.{Bool, true, false, _&&_, _||_, false≢true}

@@ -1,5 +1,6 @@
 -- What a completed word leaves in every part of the state but registers and flags, exactly, its request and its microcycles: 01's sentences and lists of
--- codes, of the taken word's own bits, the state before and the sample. What is in no list of a part leaves it as it was.
+-- codes, of the taken word's own bits, the state before and the sample. What is in no list of a part leaves it as it was. And the user's outputs after any
+-- attempt, by 02.
 use Prim.Native.Nat.{ℕ, _+_, _-_, _*_, _/_, _%_, _^_, _<_}
 use mathlib.Core.Path.{_≡_}
 use mathlib.Core.Bool.{Bool, true, false, not, _&&_, _||_, Bool·beq}

@@ -4,7 +4,8 @@ use mathlib.Core.List.{List, [], _∷_, _++_}
 use Prim.Native.Nat.{ℕ, zero, suc, _+_, _*_, _/_, _%_, _<_, _≤_}
 use native.Mathlib.Omega.{arith}
 use lib.ListN.{length, take, drop, set, List·getD-eq-default}
-use Rattle.numbers.specs.Numbers.{byteAt, pairAt, quadAt, Bytes}
+use Rattle.numbers.specs.Laid.{numberAt}
+use Rattle.numbers.specs.Numbers.{byteAt, pairAt, quadAt, wordAt, Bytes}
 
 pub byte-past : (s : List ℕ) (a : ℕ) → length s ≤ a → byteAt s a ≡ 0
 byte-past s a h = List·getD-eq-default s 0 h
@@ -57,6 +58,11 @@ pair-below s b a = omega (arith, byte-below s b a, byte-below s b (a + 1))
 -- ---- four bytes
 pub quad-bytes : (s : List ℕ) (a : ℕ) → quadAt s a ≡ byteAt s a + 256 * byteAt s (a + 1) + 65536 * byteAt s (a + 2) + 16777216 * byteAt s (a + 3)
 quad-bytes s a = let e : a + 2 + 1 ≡ a + 3 = omega arith in rw e (omega arith)
+
+-- "Words: 4 bytes each", low first: word i stands in four bytes of its own
+pub word-number : (s : List ℕ) (i : ℕ) → wordAt s i ≡ numberAt s (i * 4) 4
+unfolding wordAt
+word-number s i = let e : i * 4 + 1 + 1 ≡ i * 4 + 2 = omega arith in rw e (omega arith)
 
 -- lists that agree so far have the same number there
 pub quad-same : (b c : List ℕ) (at : ℕ) → ((i : ℕ) → i < at + 4 → byteAt b i ≡ byteAt c i) → quadAt b at ≡ quadAt c at

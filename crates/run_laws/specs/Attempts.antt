@@ -34,7 +34,7 @@ module _ (ws : List ℕ) (rs : List Row) (at : ℕ → Sample) (first : Leaves C
   abbrev pub attemptAt : ℕ → Leaves Outcome
   attemptAt i = attemptFrom ws rs (stateAfter i) (at i)
 
-  -- attempt i completes its word; none does from attempt i on; attempt i is the last that does, of n
+  -- attempt i completes its word; none of the attempts from i to n - 1 does; attempt i is the last of the first n that does
   abbrev pub CompletesAt : ℕ → Type 0
   CompletesAt i = fateOf ws (stateAfter i .back) (at i) ≡ completed
 

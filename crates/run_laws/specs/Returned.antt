@@ -31,7 +31,7 @@ stateIn deck i = stateAfter (wordsPart deck) (deckRows deck) (sampleAt (samplesP
 abbrev pub attemptIn : List ℕ → ℕ → Leaves Outcome
 attemptIn deck i = attemptAt (wordsPart deck) (deckRows deck) (sampleAt (samplesPart deck)) (deckState deck) i
 
--- attempt i is the last of n that completes its word; none of n does
+-- attempt i is the last of the first n that completes its word; none of the first n does
 abbrev pub LastCompletedIn : List ℕ → ℕ → ℕ → Type 0
 LastCompletedIn deck i n = LastCompleted (wordsPart deck) (deckRows deck) (sampleAt (samplesPart deck)) (deckState deck) i n
 

@@ -1,6 +1,6 @@
 -- The state's bytes hold the state in 01's order, as they are read and as they are written.
 -- Assumes nothing.
-use mathlib.Core.Path.{_≡_, sym, ap, _∙_}
+use mathlib.Core.Path.{_≡_, refl, sym, ap, _∙_}
 use mathlib.Core.Bool.{true}
 use mathlib.Core.List.{List}
 use mathlib.Core.Logic.{_↔_}
@@ -21,10 +21,14 @@ use Rattle.state.proofs.Digits.{digits}
 use Rattle.state.proofs.Order.{flags-order, flag-byte-order}
 use Rattle.state.proofs.Registers.{named, one-place, every-place}
 use Rattle.state_bytes.specs.Bytes.{stateBytes, addressOf, busOf, latchesOf, coreOf, fileOf, tailOf, bytesOf}
-use Rattle.state_bytes.specs.Order.{registersWide, stateOrder, RegistersInOrder, StateInRange}
+use Rattle.state_bytes.specs.Order.{registersWide, stateOrder, RegistersInOrder, stateLimits, startOf, StateInRange}
 use Rattle.state_bytes.specs.Range.{stateInRange}
 use Rattle.state_bytes.proofs.Laws.{file-length, file-bytes, core-true, tested, state-in-range, tail-at}
 use Rattle.state_bytes.proofs.Steps.{padded-at}
+
+-- a state is as long as the registers and the numbers after them
+pub state-length : stateBytes ≡ startOf 11 stateLimits
+state-length = refl
 
 -- as they are read
 pub core-order : (s : List ℕ) → Bytes s → byteAt s 37 < 16 → LaidOut s registersWide (stateOrder (coreOf s))
