@@ -15,7 +15,7 @@ use Rattle.numbers.specs.Numbers.{wordAt}
 use Rattle.state.specs.declared.Core.{Core}
 use Rattle.state.specs.declared.Latches.{Latches}
 use Rattle.attempt_laws.specs.After.{hasBit, Modified}
-use Rattle.attempt_laws.specs.Fate.{takenWord}
+use Rattle.attempt_laws.specs.Fate.{userBits, takenWord}
 
 -- ---- one digit: what a test found of 0 and 1
 
@@ -74,5 +74,5 @@ pub taken-word : (ws : List ℕ) (k : Core) → k .latches .modification < 65536
 taken-word ws k h = modified (wordAt ws (k .address .lc)) (k .latches) h
 
 -- bits 18-21 are the word's own: a modification does not reach them
-pub taken-outputs : (ws : List ℕ) (k : Core) → k .latches .modification < 65536 → takenWord ws k / 2 ^ 18 ≡ wordAt ws (k .address .lc) / 2 ^ 18
+pub taken-outputs : (ws : List ℕ) (k : Core) → k .latches .modification < 65536 → userBits (takenWord ws k) ≡ userBits (wordAt ws (k .address .lc))
 taken-outputs ws k h = omega (arith, taken-word ws k h .high)

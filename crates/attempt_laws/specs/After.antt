@@ -18,7 +18,7 @@ use Rattle.state.specs.declared.Core.{Core}
 use Rattle.state.specs.declared.Latches.{Latches}
 use Rattle.state.specs.declared.Sample.{Sample}
 use Rattle.attempt_laws.specs.Fate.{Fate, refused, waited, reset, compute-low, completed}
-use Rattle.attempt_laws.specs.Fate.{within, odd, oneOf, twoCycle, inputWord, topIn, bIn, aIn}
+use Rattle.attempt_laws.specs.Fate.{within, odd, oneOf, twoCycle, inputWord, userBits, topIn, bIn, aIn}
 
 -- bit i of a number, of weight 2^i
 abbrev pub hasBit : ℕ → ℕ → Bool
@@ -139,7 +139,7 @@ pub record LatchesAre (code b ra pair : ℕ) (s : Sample) (before after : Latche
 
 -- 02, L1: "The state keeps the last executed word's four bits", which are "bits 18-21". "A wait, COMPUTE low and RESET keep them", and so does a refusal
 abbrev pub outputsAfter : Fate → ℕ → ℕ → ℕ
-outputsAfter completed word before = word / 2 ^ 18 % 2 ^ 4
+outputsAfter completed word before = userBits word
 outputsAfter waited word before = before
 outputsAfter reset word before = before
 outputsAfter compute-low word before = before

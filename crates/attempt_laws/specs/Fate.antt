@@ -1,6 +1,6 @@
 -- What an attempt is: "a refusal, a wait, a RESET or a COMPUTE-low one exactly when 01 says so, and every other attempt completes its
 -- microinstruction". The conditions are 01's own lists, of the word's bits: they use none of the engine's tables.
-use Prim.Native.Nat.{ℕ, _*_, _/_, _%_}
+use Prim.Native.Nat.{ℕ, _*_, _/_, _%_, _^_}
 use mathlib.Core.Path.{_≡_}
 use mathlib.Core.Bool.{Bool, false, not, _&&_, _||_}
 use mathlib.Core.List.{List, [], _∷_}
@@ -76,7 +76,10 @@ mustWait code reply busy =
 
 -- ---- the fate
 
--- bits 15-8, 7-4 and 3-0 of a word
+-- bits 18-21, 15-8, 7-4 and 3-0 of a word
+abbrev pub userBits : ℕ → ℕ
+userBits word = word / 2 ^ 18 % 2 ^ 4
+
 abbrev pub topIn : ℕ → ℕ
 topIn word = word / 0x100 % 0x100
 

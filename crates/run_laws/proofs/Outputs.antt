@@ -2,11 +2,11 @@
 -- Assumes nothing.
 use mathlib.Core.Path.{_≡_, refl, ap, _∙_}
 use mathlib.Core.List.{List}
-use Prim.Native.Nat.{ℕ, zero, suc, _+_, _-_, _/_, _%_, _^_, _≤_}
+use Prim.Native.Nat.{ℕ, zero, suc, _+_, _-_, _≤_}
 use native.Mathlib.Omega.{arith}
 use lib.ListN.{length}
 use Rattle.attempt_laws.specs.After.{outputsAfter}
-use Rattle.attempt_laws.specs.Fate.{Fate, refused, waited, reset, compute-low, completed, takenWord, fateOf}
+use Rattle.attempt_laws.specs.Fate.{Fate, refused, waited, reset, compute-low, completed, userBits, takenWord, fateOf}
 use Rattle.attempt_laws.proofs.After.{attempt-outputs}
 use Rattle.attempt_laws.proofs.Bits.{taken-outputs}
 use Rattle.deck.specs.Ranges.{deckRefusalOf}
@@ -54,7 +54,7 @@ module _ (ws : List ℕ) (rs : List Row) (at : ℕ → Sample) (first : Leaves C
   unfolding stateAfter
   outputs-start n none = let all : 0 + n ≡ n = omega arith in rw all at (kept 0 n (λ j lo hi. none j lo (omega arith)))
 
-  pub outputs-last : (i n : ℕ) → LastCompleted ws rs at first i n → outputs n ≡ takenWord ws (stateAfter ws rs at first i .back) / 2 ^ 18 % 2 ^ 4
+  pub outputs-last : (i n : ℕ) → LastCompleted ws rs at first i n → outputs n ≡ userBits (takenWord ws (stateAfter ws rs at first i .back))
   outputs-last i n (l, completes, none) =
       let all : suc i + (n - suc i) ≡ n = omega arith in
       rw all at (kept (suc i) (n - suc i) (λ j lo hi. none j (omega arith) (omega arith)))
@@ -72,12 +72,12 @@ module _ (deck requests state : List ℕ) (b : Bytes deck) (h : deckRefusalOf de
       ap (λ (s : List ℕ). byteAt s 41) (r .state) ∙ tail-at (x .file) (x .back) (state-each deck requests state b h n few .size) 15
 
   pub host-outputs-last : (i : ℕ) → LastCompletedIn deck i n
-      → byteAt (hostOf deck requests state .state) 41 ≡ wordAt (wordsPart deck) (stateIn deck i .back .address .lc) / 2 ^ 18 % 2 ^ 4
+      → byteAt (hostOf deck requests state .state) 41 ≡ userBits (wordAt (wordsPart deck) (stateIn deck i .back .address .lc))
   host-outputs-last i l =
       let k = stateIn deck i .back in
       last-byte
       ∙ outputs-last _ _ _ _ i n l
-      ∙ ap (λ (w : ℕ). w % 2 ^ 4) (taken-outputs (wordsPart deck) k (state-each deck requests state b h i (omega (arith, l .0)) .modification))
+      ∙ taken-outputs (wordsPart deck) k (state-each deck requests state b h i (omega (arith, l .0)) .modification)
 
   pub host-outputs-start : NoneCompletesIn deck n → byteAt (hostOf deck requests state .state) 41 ≡ byteAt (statePart deck) 41
   unfolding coreOf

@@ -1,5 +1,5 @@
 -- One attempt at a step's word: fetched, taken apart, not refused, not held, executed. Assumes nothing.
-use Prim.Native.Nat.{ℕ, _+_, _*_, _/_, _%_, _^_, _<_, _≤_}
+use Prim.Native.Nat.{ℕ, _+_, _*_, _/_, _%_, _<_, _≤_}
 use mathlib.Core.Path.{_≡_, refl}
 use mathlib.Core.Bool.{Bool, true, false}
 use mathlib.Core.List.{List, []}
@@ -27,7 +27,8 @@ use Rattle.state.specs.declared.Core.{Core}
 use Rattle.state.specs.declared.Latches.{Latches}
 use Rattle.state.specs.declared.Sample.{Sample}
 use Rattle.sums.specs.Sums.{Step, Sign, stepCode, instructionOf, isPair, sourceOf, targetOf}
-use Rattle.attempt_laws.specs.After.{following}
+use Rattle.attempt_laws.specs.After.{hasBit, following}
+use Rattle.attempt_laws.specs.Fate.{userBits}
 use Rattle.sums.specs.Sums.Step.{byte, pair}
 use Rattle.sums.proofs.Codes.{cycles, pairs, options, goes-on, bus-kept, latches-kept, no-request, no-rtsr, working, class, no-cad, word-bit, stepCarry}
 use Rattle.sums.proofs.Cycles.{Fits, stepMade, step-is}
@@ -75,19 +76,15 @@ refusal-none sign later (pair a b) h =
 
 -- ---- executed
 
--- bit 16 of a word
-abbrev loads : ℕ → Bool
-loads w = eqb (w / 0x1_0000 % 2) 1
-
 -- the rest of the state after a step with the word w
 abbrev pub coreAfter : Core → Flags → ℕ → Core
 coreAfter k f w =
     record {
       flags = f;
-      address = record { lc = following (k .address .lc); rr = pick (loads w) (following (k .address .lc)) (k .address .rr); tsr = k .address .tsr };
+      address = record { lc = following (k .address .lc); rr = pick (hasBit 16 w) (following (k .address .lc)) (k .address .rr); tsr = k .address .tsr };
       bus = k .bus;
       latches = used (k .latches);
-      outputs = w / 2 ^ 18 % 2 ^ 4;
+      outputs = userBits w;
     }
 
 abbrev pub endedAt : Core → Leaves Flags → ℕ → Bool → Leaves Outcome

@@ -1,5 +1,5 @@
 -- Two stretches of a run, one after the other, are one. Assumes nothing.
-use Prim.Native.Nat.{ℕ, zero, suc, _+_, _*_, _/_, _%_, _^_, _<_, _≤_}
+use Prim.Native.Nat.{ℕ, zero, suc, _+_, _*_, _/_, _%_, _<_, _≤_}
 use mathlib.Core.Path.{_≡_, refl, ap, _∙_}
 use mathlib.Core.Bool.{Bool, true, false}
 use mathlib.Core.List.{List}
@@ -12,6 +12,7 @@ use Rattle.engine.specs.Run.{World}
 use Rattle.numbers.specs.Numbers.{wordAt}
 use Rattle.sums.specs.Sums.{rrAfter, Advanced}
 use Rattle.attempt_laws.specs.After.{following}
+use Rattle.attempt_laws.specs.Fate.{userBits}
 
 rr-further : (ws : List ℕ) (at n n′ rr : ℕ) → at < 2048 → rrAfter ws at (n + n′) rr ≡ rrAfter ws ((at + n) % 2048) n′ (rrAfter ws at n rr)
 rr-further ws at zero n′ rr h =
@@ -48,7 +49,7 @@ module _ (n c n′ c′ : ℕ) (ws : List ℕ) (v m w : World) (first : Advanced
         tsr = second .tsr ∙ first .tsr;
         bus = second .bus ∙ first .bus;
         latches = second .latches ∙ first .latches;
-        outputs = second .outputs ∙ ap (λ (a : ℕ). wordAt ws a / 2 ^ 18 % 2 ^ 4) (omega (arith, first .lc));
+        outputs = second .outputs ∙ ap (λ (a : ℕ). userBits (wordAt ws a)) (omega (arith, first .lc));
         requests = places;
         earlier = λ i d l. second .earlier i d (omega (arith, first .attempts)) ∙ first .earlier i d l;
         later = λ i d l. second .later i d (omega (arith, first .attempts)) ∙ first .later i d (omega arith);

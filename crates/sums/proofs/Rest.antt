@@ -1,5 +1,5 @@
 -- What the steps leave beside registers and flags: counts, address, bus, latches, outputs, request buffer. Each by induction over them. Assumes nothing.
-use Prim.Native.Nat.{ℕ, _+_, _*_, _/_, _%_, _^_, _<_, _≤_}
+use Prim.Native.Nat.{ℕ, _+_, _*_, _%_, _<_, _≤_}
 use mathlib.Core.Path.{_≡_, refl, sym, ap, _∙_}
 use mathlib.Core.Bool.{Bool, true, false}
 use mathlib.Core.List.{List, [], _∷_}
@@ -8,6 +8,7 @@ use lib.Dec.{eqb, ltb}
 use lib.ListN.{length, getD, set, length-set}
 use lib.Seq.{getD-set-same, getD-set-other}
 use borrow.Author.Tests.{eqb-true, eqb-false, ltb-true, ltb-false}
+use Rattle.attempt_laws.specs.Fate.{userBits}
 use Rattle.control.specs.Latches.{used}
 use Rattle.engine.proofs.Places.{put-length, put-other}
 use Rattle.engine.specs.Run.{World, put4Of}
@@ -78,9 +79,9 @@ module _ (sign : Sign) (ws : List ℕ) where
   pub outputs-are : (later : Bool) (cut : Cut) (w : World) → w .core .address .lc < 2048 → 1 ≤ length cut
       → after sign later cut ws w .core .outputs ≡ lastOutputs ws (w .core .address .lc) (length cut)
   outputs-are later [] w h some = absurd (omega arith)
-  outputs-are later (t ∷ []) w h some = ap (λ (at : ℕ). wordAt ws at / 2 ^ 18 % 2 ^ 4) (omega arith)
+  outputs-are later (t ∷ []) w h some = ap (λ (at : ℕ). userBits (wordAt ws at)) (omega arith)
   outputs-are later (t ∷ u ∷ ts) w h some =
-      outputs-are true (u ∷ ts) (stepOn sign later t ws w) (omega arith) (omega arith) ∙ ap (λ (at : ℕ). wordAt ws at / 2 ^ 18 % 2 ^ 4) (omega arith)
+      outputs-are true (u ∷ ts) (stepOn sign later t ws w) (omega arith) (omega arith) ∙ ap (λ (at : ℕ). userBits (wordAt ws at)) (omega arith)
 
   -- what no step touches
   pub kept-is : {A : Type 0} (part : Core → A) → ((later : Bool) (t : Step) (w : World) → part (stepOn sign later t ws w .core) ≡ part (w .core))

@@ -7,6 +7,7 @@ use mathlib.Core.List.{List, [], _∷_, _++_}
 use lib.Dec.{eqb, ltb, leb}
 use lib.ListN.{length, getD}
 use Rattle.attempt_laws.specs.After.{following}
+use Rattle.attempt_laws.specs.Fate.{userBits}
 use Rattle.alu.specs.Cycle.{sumOutside}
 use Rattle.alu.specs.Numbers.{value, half, differenceOutside}
 use Rattle.alu.specs.declared.Flags.{Flags}
@@ -203,7 +204,7 @@ rrAfter ws at (suc n) rr = rrAfter ws (following at) n (pick (eqb (wordAt ws at 
 
 -- 02, L1: "the last executed word's four bits", which are bits 18-21: of the last of n words from an address on
 abbrev pub lastOutputs : List ℕ → ℕ → ℕ → ℕ
-lastOutputs ws at n = wordAt ws ((at + (n - 1)) % 2048) / 2 ^ 18 % 2 ^ 4
+lastOutputs ws at n = userBits (wordAt ws ((at + (n - 1)) % 2048))
 
 -- from v to w a run went on by n words, which took so many microcycles
 pub record Advanced (n microcycles : ℕ) (ws : List ℕ) (v w : World) : Type 0 where
