@@ -1,18 +1,19 @@
 -- Laws of one byte cycle, and of sums and differences of any number of bytes: each proved once, over the number of bytes.
 -- Assumes nothing.
-use Prim.Native.Nat.{ℕ, suc, _+_, _-_, _*_, _^_, _%_, _<_}
+use Prim.Native.Nat.{ℕ, suc, _+_, _-_, _*_, _^_, _/_, _%_, _<_}
 use mathlib.Core.Path.{_≡_, refl, ap, ap₂, _∙_, sym}
-use mathlib.Core.Bool.{Bool, true, false, not, _||_}
+use mathlib.Core.Bool.{Bool, true, false, not, _||_, Bool·beq}
 use mathlib.Core.List.{List, [], _∷_}
 use native.Mathlib.Omega.{arith}
 use native.Mathlib.Nat.{add-zero, pow-succ', mul-assoc}
-use lib.Dec.{ltb, leb}
+use lib.Dec.{T, eqb, ltb, leb}
 use lib.ListN.{length}
 use borrow.Author.Tests.{leb-true, leb-false, ltb-true, ltb-false, lt-ltb, le-ltb, le-leb, lt-leb}
 use Rattle.choose.specs.Ranged.{bit, pick}
-use Rattle.choose.proofs.Tests.{same-below, same-from, bit-le}
-use Rattle.alu.specs.Cycle.{addOf, biased, sumOutside}
-use Rattle.alu.specs.Numbers.{value, sumBytes, carryOut, lastV, ones, half, differenceOutside}
+use Rattle.choose.proofs.Table.{below}
+use Rattle.choose.proofs.Tests.{equal-tests, same-below, same-from, bit-le}
+use Rattle.alu.specs.Cycle.{addOf, leftOf, biased, sumOutside}
+use Rattle.alu.specs.Numbers.{value, sumBytes, carryOut, lastV, shiftedBytes, shiftedOut, shiftedV, ones, half, differenceOutside}
 use Rattle.numbers.specs.Numbers.{Bytes}
 
 -- ---- one byte
@@ -223,3 +224,53 @@ v-difference-law p q ps qs b v bp bq e =
     = ones-value (q ∷ qs) bq ∙ pow-succ' 256 (length qs) ∙ ap (λ (n : ℕ). 256 * 256 ^ n) (sym e) ∙ omega arith in
     v-law p (255 - q) ps (ones qs) (not b) v bp (ones-bytes (q ∷ qs) bq) (e ∙ sym (ones-length qs))
     ∙ outside-ones (half (length ps)) (value (p ∷ ps)) (value (q ∷ qs)) (value (ones (q ∷ qs))) b o
+
+-- ---- 02, L2: "a left shift agrees with adding the operand to itself .., the C flag being the carry in for the forms with carry"
+
+-- C4 and V agree: tests that antt computes for each byte, with and without a carry in
+abbrev c4Agrees : Bool → ℕ → Bool
+c4Agrees c q = Bool·beq (eqb (q / 8 % 2) 1) (leb 16 (q % 16 + q % 16 + bit c))
+
+abbrev vAgrees : Bool → ℕ → Bool
+vAgrees c q = Bool·beq (not (Bool·beq (leb 64 (q % 128)) (leb 128 q))) (sumOutside 128 q q c)
+
+agree : (c : Bool) (q : ℕ) → q < 256 → T (c4Agrees c q) × T (vAgrees c q)
+agree true q h = (below 256 (c4Agrees true) tt q h, below 256 (vAgrees true) tt q h)
+agree false q h = (below 256 (c4Agrees false) tt q h, below 256 (vAgrees false) tt q h)
+
+-- every output of the cycle
+pub left-adds : (q : ℕ) (c : Bool) → q < 256 → leftOf q c ≡ addOf q q c
+unfolding leftOf addOf
+left-adds q c h =
+    let result : q * 2 % 256 + bit c ≡ (q + q + bit c) % 256 = omega (arith, bit-le c) in
+    let c4 : eqb (q / 8 % 2) 1 ≡ leb 16 (q % 16 + q % 16 + bit c) = equal-tests _ _ (agree c q h .0) in
+    let v : not (Bool·beq (leb 64 (q % 128)) (leb 128 q)) ≡ sumOutside 128 q q c = equal-tests _ _ (agree c q h .1) in
+    rw (result, c4, v, same-from 128 q 256 (q + q + bit c) (λ l. omega arith) (λ l. omega (arith, bit-le c)))
+
+-- "The boards set V when a left shift changes the sign"
+pub left-sign : (q : ℕ) (c : Bool) → leftOf q c .v ≡ not (Bool·beq (leb 128 (leftOf q c .result)) (leb 128 q))
+unfolding leftOf
+left-sign q c =
+    ap (λ t. not (Bool·beq t (leb 128 q))) (same-from 64 (q % 128) 128 (q * 2 % 256 + bit c) (λ l. omega arith) (λ l. omega (arith, bit-le c)))
+
+-- of any number of bytes
+pub shifted-bytes : (qs : List ℕ) (c : Bool) → Bytes qs → shiftedBytes qs c ≡ sumBytes qs qs c
+shifted-bytes [] c b = refl
+shifted-bytes (q ∷ qs) c b = rw (left-adds q c (b .0)) (ap (_∷_ (addOf q q c .result)) (shifted-bytes qs (addOf q q c .c8) (b .1)))
+
+pub shifted-out : (qs : List ℕ) (c : Bool) → Bytes qs → shiftedOut qs c ≡ carryOut qs qs c
+shifted-out [] c b = refl
+shifted-out (q ∷ qs) c b = rw (left-adds q c (b .0)) (shifted-out qs (addOf q q c .c8) (b .1))
+
+pub shifted-v : (qs : List ℕ) (c v : Bool) → Bytes qs → shiftedV qs c v ≡ lastV qs qs c v
+shifted-v [] c v b = refl
+shifted-v (q ∷ qs) c v b = rw (left-adds q c (b .0)) (shifted-v qs (addOf q q c .c8) (addOf q q c .v) (b .1))
+
+-- so the bytes and the carry together are the number twice, and the carry in
+pub double-law : (qs : List ℕ) (c : Bool) → Bytes qs → value (shiftedBytes qs c) + 256 ^ length qs * bit (shiftedOut qs c) ≡ 2 * value qs + bit c
+double-law qs c b = rw (shifted-bytes qs c b, shifted-out qs c b) (sum-law qs qs c b b refl ∙ omega arith)
+
+-- and V says that the signed number twice, and the carry in, does not fit
+pub v-double-law : (q : ℕ) (qs : List ℕ) (c v : Bool) → Bytes (q ∷ qs)
+    → shiftedV (q ∷ qs) c v ≡ sumOutside (half (length qs)) (value (q ∷ qs)) (value (q ∷ qs)) c
+v-double-law q qs c v b = shifted-v (q ∷ qs) c v b ∙ v-law q q qs qs c v b b refl

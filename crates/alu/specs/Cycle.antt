@@ -1,6 +1,6 @@
 -- One byte cycle: operands p (Ra) and q (Rb), a carry in, and what comes out. 01, "Codes, cycles and flags".
 use Prim.Native.Nat.{ℕ, _+_, _-_, _*_, _/_, _%_}
-use mathlib.Core.Bool.{Bool, true, false, not, _||_}
+use mathlib.Core.Bool.{Bool, true, false, not, _||_, Bool·beq}
 use lib.Dec.{ltb, leb, eqb}
 use lib.Bits.{bitAnd, bitOr, bitXor}
 use Rattle.choose.specs.Ranged.{bit, pick}
@@ -42,10 +42,13 @@ keptOf r f = record { result = r; c4 = f .c4; c8 = f .c8; v = false; c = f .c }
 unfoldable pub onesOf : ℕ → Cycle
 onesOf q = record { result = 255 - q; c4 = false; c8 = false; v = false; c = true }
 
--- "Shift left: C8 and C are bit 7, C4 bit 3, V cleared": the carry comes in at bit 0
+-- "Shift left: C8 and C are bit 7, C4 bit 3": the carry comes in at bit 0. 02, L2: "V is now the carry into the top position differing from the carry
+-- out of it", which are bits 6 and 7
 unfoldable pub leftOf : ℕ → Bool → Cycle
 leftOf q c =
-    record { result = q * 2 % 256 + bit c; c4 = eqb (q / 8 % 2) 1; c8 = leb 128 q; v = false; c = leb 128 q }
+    let into = leb 64 (q % 128) in
+    let out = leb 128 q in
+    record { result = q * 2 % 256 + bit c; c4 = eqb (q / 8 % 2) 1; c8 = out; v = not (Bool·beq into out); c = out }
 
 -- "Shift right: C4 and V cleared, C8 and C bit 0": the carry comes in at bit 7
 unfoldable pub rightOf : ℕ → Bool → Cycle

@@ -97,13 +97,14 @@ fn ones(q: u8) -> Cycle
 fn left(q: u8, carry: bool) -> Cycle
     ensures { λ r. ⌜ r ≡ leftOf q carry ⌝ }
 {
-    let off = 128 <= q;
+    let into = 64 <= q % 128;
+    let out = 128 <= q;
     Cycle {
         result: (q as u16 * 2 % 256 + bit_of(carry) as u16) as u8,
         c4: q / 8 % 2 == 1,
-        c8: off,
-        v: false,
-        c: off,
+        c8: out,
+        v: into != out,
+        c: out,
     }
 }
 

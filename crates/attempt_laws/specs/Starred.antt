@@ -83,7 +83,8 @@ unfoldable pub allHold : List Case → Bool
 allHold [] = true
 allHold (k ∷ ks) = caseHolds k && allHold ks
 
--- ---- the table: AB, SB, SBC, TCB, AW, SRW and SLB with b 4 and a 2, so Ra is R2 or R3:R2, Rb R4 or R5:R4; for G, LL of 5A hex with a 0 or 1
+-- ---- the table: AB, SB, SBC, TCB, AW, SRW and SLB with b 4 and a 2, so Ra is R2 or R3:R2, Rb R4 or R5:R4; for G, LL of 5A hex with a 0 or 1.
+-- 02, L2: "The case SLB of 40 becomes V 1"
 unfoldable pub cases : List Case
 cases =
     case 0 false 0xA142 1 ((R 2, 0x7F) ∷ (R 4, 0x01) ∷ []) ((R 2, 0x80) ∷ (R 4, 0x01) ∷ [])
@@ -99,7 +100,7 @@ cases =
     case 0 false 0xA342 2 ((R 2, 0xFF) ∷ (R 4, 0x01) ∷ []) ((R 3, 0x01) ∷ (R 4, 0x01) ∷ []) ((isC4, false) ∷ (isC, false) ∷ []) ∷
     case 0 false 0xA342 2 ((R 2, 0xFF) ∷ (R 3, 0x7F) ∷ (R 4, 0x01) ∷ []) ((R 3, 0x80) ∷ (R 4, 0x01) ∷ []) ((isV, true) ∷ []) ∷
     case 0 false 0xDF42 2 ((R 4, 0x01) ∷ (R 5, 0x01) ∷ []) ((R 2, 0x80) ∷ (R 4, 0x01) ∷ (R 5, 0x01) ∷ []) ((isC, true) ∷ (isN, true) ∷ []) ∷
-    case 0 false 0x8D42 1 ((R 4, 0x40) ∷ []) ((R 2, 0x80) ∷ (R 4, 0x40) ∷ []) ((isV, false) ∷ []) ∷
+    case 0 false 0x8D42 1 ((R 4, 0x40) ∷ []) ((R 2, 0x80) ∷ (R 4, 0x40) ∷ []) ((isV, true) ∷ []) ∷
     case 6 false 0x65A0 1 [] ((R 0xC, 0x5A) ∷ []) [] ∷
     case 5 false 0x65A1 1 [] ((G 0xB, 0x5A) ∷ []) [] ∷
     []

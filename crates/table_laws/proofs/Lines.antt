@@ -82,14 +82,14 @@ within-is lo hi x e =
 is-within : (lo hi x : ℕ) → lo ≤ x → x ≤ hi → within lo hi x ≡ true
 is-within lo hi x l h = rw (le-leb lo x l, le-leb x hi h)
 
-above : (lo hi x : ℕ) → hi < x → within lo hi x ≡ false
+pub above : (lo hi x : ℕ) → hi < x → within lo hi x ≡ false
 above lo hi x h = go (leb lo x)
   where
     go : (t : Bool) → t && leb x hi ≡ false
     go true = lt-leb x hi h
     go false = refl
 
-under : (lo hi x : ℕ) → x < lo → within lo hi x ≡ false
+pub under : (lo hi x : ℕ) → x < lo → within lo hi x ≡ false
 under lo hi x h = rw (lt-leb lo x h)
 
 -- ---- "Refusal 7 tests a and b for the two-cycle codes 82-DF, and a alone for IW and ISW"

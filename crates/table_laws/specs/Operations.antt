@@ -1,7 +1,7 @@
 -- What each operation of manual 5.3.2 gives, a line for its byte and word forms together, with the codes that have it: 01's "Codes, cycles and
 -- flags". Nothing here uses the engine's plans, cycles or tables.
 use Prim.Native.Nat.{ℕ, _+_, _-_, _*_, _/_, _%_}
-use mathlib.Core.Bool.{Bool, true, false, not, _||_}
+use mathlib.Core.Bool.{Bool, true, false, not, _||_, Bool·beq}
 use mathlib.Core.List.{List, [], _∷_}
 use lib.Bits.{bitAnd, bitOr, bitXor}
 use lib.Dec.{leb, ltb}
@@ -57,7 +57,7 @@ logicalOf h x f = record { number = x; negative = leb (h / 2) x; c4 = f .c4; c8 
 unfoldable pub complementOf : ℕ → ℕ → Result
 complementOf h q = record { number = h - 1 - q; negative = leb (h / 2) (h - 1 - q); c4 = false; c8 = false; v = false; c = true }
 
--- "Shift left: C8 and C are bit 7, C4 bit 3, V cleared"
+-- "Shift left: C8 and C are bit 7, C4 bit 3"; 02, L2: "V is now the carry into the top position differing from the carry out of it"
 unfoldable pub shiftLeftOf : ℕ → ℕ → Bool → Result
 shiftLeftOf h q c =
     record {
@@ -65,7 +65,7 @@ shiftLeftOf h q c =
       negative = leb (h / 2) ((q * 2 + bit c) % h);
       c4 = odd (q / (h / 32));
       c8 = leb (h / 2) q;
-      v = false;
+      v = not (Bool·beq (leb (h / 2) (q % (h / 2) * 2 + bit c)) (leb h (q * 2 + bit c)));
       c = leb (h / 2) q;
     }
 

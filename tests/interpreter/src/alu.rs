@@ -66,7 +66,9 @@ pub(crate) fn complement<const BITS: u32>(p: u32) -> (u32, u8) {
 #[inline]
 pub(crate) fn shift_left<const BITS: u32>(p: u32, carry: u32) -> (u32, u8) {
     let value = (p << 1 | carry) & ((1 << BITS) - 1);
-    let carries = (bit(p, BITS - 1) * (C | C8)) | (bit(p, BITS - 5) * C4);
+    let (into, out) = (bit(p, BITS - 2), bit(p, BITS - 1));
+    // 02, L2: V is the carry into the top position differing from the carry out of it.
+    let carries = ((into ^ out) * V) | (out * (C | C8)) | (bit(p, BITS - 5) * C4);
     (value, signs(value, BITS - 1) | carries)
 }
 

@@ -33,7 +33,8 @@ fn left(p: u8, carry: bool) -> Cycle {
         value: (u32::from(p) * 2 % 256) as u8 + u8::from(carry),
         c4: p / 8 % 2 == 1,
         c8: p >= 128,
-        v: false,
+        // The carry into the top position against the carry out of it.
+        v: (p / 64 % 2 == 1) != (p >= 128),
     }
 }
 

@@ -4,7 +4,7 @@ mod common;
 
 use common::{ran, ran_with};
 use interpreter::decks::{case, single, Case, Kind};
-use interpreter::{attempt, section, Outcome, Report, Row, Sample, State, STATE_BYTES};
+use interpreter::{attempt, place, section, Outcome, Report, Row, Sample, State, STATE_BYTES};
 
 fn report(case: &Case) -> Report {
     ran_with(&case.deck, case.requests, case.state).report
@@ -150,4 +150,28 @@ fn singles_reach_every_code() {
     assert!(refused[5..].iter().all(|&count| count >= 10), "{refused:?}");
     assert!(kinds.iter().all(|&count| count >= 10), "{kinds:?}");
     assert!(translated >= 500, "{translated}");
+}
+
+/// Bits 7 and 6 of the operand's top byte and C, where a shift of this seed's code is executed.
+fn shifted(seed: u64) -> Option<(u8, u8)> {
+    let (outcome, _) = stepped(seed);
+    let done = matches!(outcome, Outcome::Done { request, .. } if request >> 16 == 0);
+    let single = single(seed);
+    let state = State::from_bytes(&single.state)?;
+    let word = single.words.get(usize::from(state.lc))?;
+    let word = word | u32::from(state.modification.unwrap_or(0));
+    let own = done && word >> 8 & 0xFF == seed as u32 & 0xFF;
+    let high = place((word >> 4) as u8, state.g) + (word >> 9 & 1) as usize;
+    own.then(|| (state.registers[high] >> 6, state.flags >> 4 & 1))
+}
+
+#[test]
+fn singles_shift_all_top_bits_left() {
+    for top in [0x89, 0x8B, 0x8D, 0x8F] {
+        let mut seen = [[0; 2]; 4];
+        for (bits, c) in (0..400).filter_map(|at| shifted(at << 8 | top)) {
+            seen[usize::from(bits)][usize::from(c)] += 1;
+        }
+        assert!(seen.iter().flatten().min() >= Some(&10), "{top:X} {seen:?}");
+    }
 }

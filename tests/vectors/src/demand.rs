@@ -1,8 +1,9 @@
 //! A vector that a code must have.
 
 use crate::draft::Claim;
+use crate::setting::Setting;
 use crate::vector::Vector;
-use interpreter::State;
+use interpreter::{place, State};
 
 /// A vector that a code must have: its name, and what the name says of it.
 pub struct Demand {
@@ -13,6 +14,8 @@ pub struct Demand {
     word: (u32, u32),
     /// Lines of its first sample, and what they must be.
     lines: (u8, u8),
+    /// Bits of what it shifts, in the top byte, and what they must be.
+    shifted: (u8, u8),
     /// What must be so before.
     before: fn(&State) -> bool,
 }
@@ -25,6 +28,7 @@ impl Demand {
             claim: None,
             word: (0, 0),
             lines: (0, 0),
+            shifted: (0, 0),
             before: |_| true,
         }
     }
@@ -45,6 +49,12 @@ impl Demand {
     pub fn lines(self, mask: u8, value: u8) -> Self {
         let lines = (mask, value);
         Self { lines, ..self }
+    }
+
+    /// Under this mask the top byte of Rb, or of Rb+1:Rb, must be this before.
+    pub fn shifted(self, mask: u8, value: u8) -> Self {
+        let shifted = (mask, value);
+        Self { shifted, ..self }
     }
 
     /// The state before must be such.
@@ -68,6 +78,15 @@ impl Demand {
         self.claim.map_or(true, |claim| claim == draft.claim)
             && setting.word() & self.word.0 == self.word.1
             && lines & self.lines.0 == self.lines.1
+            && top_byte(setting) & self.shifted.0 == self.shifted.1
             && (self.before)(&setting.state)
     }
+}
+
+/// Rb, or Rb+1 where 80-DF work on words.
+fn top_byte(setting: &Setting) -> u8 {
+    let (state, word) = (&setting.state, setting.word());
+    let rb = place((word >> 4) as u8, state.g);
+    let at = rb + usize::from(word & 0x200 != 0);
+    state.registers.get(at).copied().unwrap_or(0)
 }

@@ -1,5 +1,5 @@
-//! The vectors that each code must have, by 01's rules for top bytes. Nothing here is taken from the
-//! modules that draft them.
+//! The vectors that each code must have, by the rules of 01 and 02 for top bytes. Nothing here is
+//! taken from the modules that draft them.
 
 use crate::code::{Code, Format};
 use crate::demand::Demand;
@@ -81,7 +81,8 @@ pub fn all(code: &Code) -> Vec<Demand> {
         }
     }
     let rules = [
-        jumps, literals, conditions, registers, halves, pairs, options, waits, ignored, nothing,
+        jumps, literals, conditions, registers, halves, lefts, pairs, options, waits, ignored,
+        nothing,
     ];
     all.extend(rules.iter().flat_map(|rule| rule(top)));
     all
@@ -184,6 +185,24 @@ fn halves(top: u8) -> Vec<Demand> {
     }
     let named = |name: &str| Demand::named(name).claim(Executed);
     names.into_iter().map(named).collect()
+}
+
+/// Left shifts: the top two bits each way, with C 0 and 1.
+fn lefts(top: u8) -> Vec<Demand> {
+    if !matches!(top, 0x88..=0x8F) {
+        return Vec::new();
+    }
+    let both = |bits: u8| {
+        let named = |end: &str| {
+            let named = Demand::named(format!("top-{bits:02b}{end}")).claim(Executed);
+            named.shifted(0xC0, bits << 6)
+        };
+        [
+            named("").before(|state| state.flags & 0x10 == 0),
+            named("-c").before(|state| state.flags & 0x10 != 0),
+        ]
+    };
+    (0..4).flat_map(both).collect()
 }
 
 /// Refusal 7: a and b of the two-cycle codes 82-DF, a of IW and ISW.
