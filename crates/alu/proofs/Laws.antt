@@ -1,14 +1,15 @@
 -- Laws of one byte cycle, and of sums and differences of any number of bytes: each proved once, over the number of bytes.
 -- Assumes nothing.
-use Prim.Native.Nat.{ℕ, suc, _+_, _-_, _*_, _^_, _/_, _%_, _<_}
+use Prim.Native.Nat.{ℕ, suc, _+_, _-_, _*_, _^_, _%_, _<_}
 use mathlib.Core.Path.{_≡_, refl, ap, ap₂, _∙_, sym}
 use mathlib.Core.Bool.{Bool, true, false, not, _||_, Bool·beq}
 use mathlib.Core.List.{List, [], _∷_}
 use native.Mathlib.Omega.{arith}
 use native.Mathlib.Nat.{add-zero, pow-succ', mul-assoc}
-use lib.Dec.{T, eqb, ltb, leb}
+use lib.Dec.{T, ltb, leb}
 use lib.ListN.{length}
 use borrow.Author.Tests.{leb-true, leb-false, ltb-true, ltb-false, lt-ltb, le-ltb, le-leb, lt-leb}
+use Rattle.choose.specs.Below.{allBelow}
 use Rattle.choose.specs.Ranged.{bit, pick}
 use Rattle.choose.proofs.Table.{below}
 use Rattle.choose.proofs.Tests.{equal-tests, same-below, same-from, bit-le}
@@ -227,31 +228,32 @@ v-difference-law p q ps qs b v bp bq e =
 
 -- ---- 02, L2: "a left shift agrees with adding the operand to itself .., the C flag being the carry in for the forms with carry"
 
--- C4 and V agree: tests that antt computes for each byte, with and without a carry in
-abbrev c4Agrees : Bool → ℕ → Bool
-c4Agrees c q = Bool·beq (eqb (q / 8 % 2) 1) (leb 16 (q % 16 + q % 16 + bit c))
+-- tests that are the same for each byte, with and without a carry in, as antt computes
+abbrev sameFor : (f g : Bool → ℕ → Bool) → Bool → ℕ → Bool
+sameFor f g c q = Bool·beq (f c q) (g c q)
 
-abbrev vAgrees : Bool → ℕ → Bool
-vAgrees c q = Bool·beq (not (Bool·beq (leb 64 (q % 128)) (leb 128 q))) (sumOutside 128 q q c)
-
-agree : (c : Bool) (q : ℕ) → q < 256 → T (c4Agrees c q) × T (vAgrees c q)
-agree true q h = (below 256 (c4Agrees true) tt q h, below 256 (vAgrees true) tt q h)
-agree false q h = (below 256 (c4Agrees false) tt q h, below 256 (vAgrees false) tt q h)
+same-tests : (f g : Bool → ℕ → Bool) → T (allBelow 256 (sameFor f g true)) → T (allBelow 256 (sameFor f g false)) → (q : ℕ) (c : Bool) → q < 256
+    → f c q ≡ g c q
+same-tests f g t u q true h = equal-tests (f true q) (g true q) (below 256 (sameFor f g true) t q h)
+same-tests f g t u q false h = equal-tests (f false q) (g false q) (below 256 (sameFor f g false) u q h)
 
 -- every output of the cycle
 pub left-adds : (q : ℕ) (c : Bool) → q < 256 → leftOf q c ≡ addOf q q c
 unfolding leftOf addOf
 left-adds q c h =
-    let result : q * 2 % 256 + bit c ≡ (q + q + bit c) % 256 = omega (arith, bit-le c) in
-    let c4 : eqb (q / 8 % 2) 1 ≡ leb 16 (q % 16 + q % 16 + bit c) = equal-tests _ _ (agree c q h .0) in
-    let v : not (Bool·beq (leb 64 (q % 128)) (leb 128 q)) ≡ sumOutside 128 q q c = equal-tests _ _ (agree c q h .1) in
-    rw (result, c4, v, same-from 128 q 256 (q + q + bit c) (λ l. omega arith) (λ l. omega (arith, bit-le c)))
+    let result : leftOf q c .result ≡ addOf q q c .result = omega (arith, bit-le c) in
+    λ i. record {
+      result = result i;
+      c4 = same-tests (λ d x. leftOf x d .c4) (λ d x. addOf x x d .c4) tt tt q c h i;
+      c8 = same-tests (λ d x. leftOf x d .c8) (λ d x. addOf x x d .c8) tt tt q c h i;
+      v = same-tests (λ d x. leftOf x d .v) (λ d x. addOf x x d .v) tt tt q c h i;
+      c = same-tests (λ d x. leftOf x d .c) (λ d x. addOf x x d .c) tt tt q c h i;
+    }
 
 -- "The boards set V when a left shift changes the sign"
-pub left-sign : (q : ℕ) (c : Bool) → leftOf q c .v ≡ not (Bool·beq (leb 128 (leftOf q c .result)) (leb 128 q))
+pub left-sign : (q : ℕ) (c : Bool) → q < 256 → leftOf q c .v ≡ not (Bool·beq (leb 128 (leftOf q c .result)) (leb 128 q))
 unfolding leftOf
-left-sign q c =
-    ap (λ t. not (Bool·beq t (leb 128 q))) (same-from 64 (q % 128) 128 (q * 2 % 256 + bit c) (λ l. omega arith) (λ l. omega (arith, bit-le c)))
+left-sign = same-tests (λ d x. leftOf x d .v) (λ d x. not (Bool·beq (leb 128 (leftOf x d .result)) (leb 128 x))) tt tt
 
 -- of any number of bytes
 pub shifted-bytes : (qs : List ℕ) (c : Bool) → Bytes qs → shiftedBytes qs c ≡ sumBytes qs qs c

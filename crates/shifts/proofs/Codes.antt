@@ -1,12 +1,12 @@
 -- What 01's lists say of the codes of left shifts and their adds: tests that antt computes over the codes; and so both are completed. Assumes nothing.
-use Prim.Native.Nat.{ℕ, _+_, _/_, _%_, _<_, _≤_}
+use Prim.Native.Nat.{ℕ, _+_, _%_, _<_, _≤_}
 use mathlib.Core.Path.{_≡_, refl, sym}
 use mathlib.Core.Bool.{Bool, true, false, not, _&&_, _||_, Bool·beq}
 use mathlib.Core.List.{List, [], _∷_}
 use native.Mathlib.Omega.{arith}
 use lib.Dec.{T, leb, ltb}
 use borrow.Author.Tests.{lt-ltb, ltb-true, leb-true, ne-eqb}
-use Rattle.attempt_laws.specs.Fate.{within, odd, noCode, twoCycle, inputWord, oddPair, noOption, mustWait, topIn, bIn, aIn, wordFate, takenWord, fateOf, completed}
+use Rattle.attempt_laws.specs.Fate.{within, odd, noCode, twoCycle, inputWord, oddPair, noOption, mustWait, wordFate, takenWord, fateOf, completed}
 use Rattle.choose.proofs.Table.{below}
 use Rattle.choose.proofs.Tests.{both-left, both-right, equal-tests}
 use Rattle.choose.specs.Below.{allBelow}
@@ -31,7 +31,9 @@ Same (p ∷ ps) = (p .0 ≡ p .1) × Same ps
 
 same : (ps : List (Bool × Bool)) → T (allSame ps) → Same ps
 same [] t = tt
-same (p ∷ ps) t = let first = Bool·beq (p .0) (p .1) in (equal-tests (p .0) (p .1) (both-left first (allSame ps) t), same ps (both-right first (allSame ps) t))
+same (p ∷ ps) t =
+    let first = Bool·beq (p .0) (p .1) in
+    (equal-tests (p .0) (p .1) (both-left first (allSame ps) t), same ps (both-right first (allSame ps) t))
 
 -- from 80 to DF, listed, without condition, a word operation by its two cycles alone; writes the pair, or Ra
 abbrev facts : ℕ → List (Bool × Bool)
@@ -83,7 +85,9 @@ pub record Alike (x : ℕ) : Type 0 where
 
 module _ (code : ℕ) (shift : isShift code ≡ true) where
   of-shifts : (test : ℕ → List (Bool × Bool)) → T (allBelow 0x90 (λ x. pick (isShift x) (allSame (test x)) true)) → Same (test code)
-  of-shifts test t = same (test code) (rw shift at (below 0x90 (λ x. pick (isShift x) (allSame (test x)) true) t code (omega (arith, within-is 0x88 0x8F code shift))))
+  of-shifts test t =
+      let h = within-is 0x88 0x8F code shift in
+      same (test code) (rw shift at (below 0x90 (λ x. pick (isShift x) (allSame (test x)) true) t code (omega arith)))
 
   pub shift-plain : Plain code
   unfolding noCode storesWord storesBoth storesRa storesByte comparesOrTests
@@ -101,8 +105,8 @@ module _ (code : ℕ) (shift : isShift code ≡ true) where
 
 pub move-plain : (word : Bool) → Plain (moveFor word)
 unfolding noCode storesWord storesBoth storesRa storesByte comparesOrTests
-move-plain true = plain 0x82 (same (facts 0x82) tt)
-move-plain false = plain 0x80 (same (facts 0x80) tt)
+move-plain true = plain (moveFor true) (same (facts (moveFor true)) tt)
+move-plain false = plain (moveFor false) (same (facts (moveFor false)) tt)
 
 -- ---- an instruction of such a code
 

@@ -4,7 +4,7 @@ use mathlib.Core.Path.{_≡_, refl, sym, _∙_}
 use mathlib.Core.Bool.{Bool, true, false}
 use mathlib.Core.List.{List}
 use Rattle.alu.proofs.Laws.{left-adds}
-use Rattle.alu.specs.Cycle.{leftOf, addOf, cycleOf}
+use Rattle.alu.specs.Cycle.{addOf, cycleOf}
 use Rattle.alu.specs.declared.Cycle.{Cycle}
 use Rattle.alu.specs.declared.Flags.{Flags}
 use Rattle.alu.specs.declared.Kind.{Kind}

@@ -1,9 +1,9 @@
 -- A left shift leaves the registers and the flags that its add leaves: both attempts perform the same result, and write the same registers.
 -- Assumes nothing.
-use Prim.Native.Nat.{ℕ, zero, suc, _+_, _*_, _%_, _<_, _≤_}
+use Prim.Native.Nat.{ℕ, zero, suc, _+_, _%_, _<_}
 use mathlib.Core.Path.{_≡_, refl, ap, sym, _∙_}
 use mathlib.Core.Bool.{Bool, true, false, not}
-use mathlib.Core.List.{List, [], _∷_}
+use mathlib.Core.List.{List}
 use native.Mathlib.Omega.{arith}
 use lib.Dec.{eqb}
 use lib.ListN.{length, getD}
@@ -13,7 +13,7 @@ use Rattle.alu.specs.declared.Flags.{Flags}
 use Rattle.attempt.specs.Attempt.{attemptOf}
 use Rattle.attempt.specs.declared.Outcome.{Outcome}
 use Rattle.attempt_laws.proofs.Range.{attempt-in-range}
-use Rattle.attempt_laws.specs.Fate.{within, takenWord}
+use Rattle.attempt_laws.specs.Fate.{within}
 use Rattle.rows.specs.Range.{rowsInRange}
 use Rattle.rows.specs.declared.Row.{Row}
 use Rattle.state.specs.File.{Leaves, slotOf, registerOf}
@@ -28,7 +28,7 @@ use Rattle.table_laws.proofs.Set.{attempt-sets}
 use Rattle.table_laws.specs.Operations.{Result, Line, Each, end, _also_, written, logicalOf, operations, shiftLeftOf, sumOf}
 use Rattle.table_laws.specs.Set.{oddCode, wordCode, numberIn, rangeOf, Performed}
 use Rattle.table_laws.specs.Table.{Elsewhere}
-use Rattle.shifts.specs.Shifts.{isShift, addFor, Takes, registersFrom, Already, moveFor, Doubling, Agrees}
+use Rattle.shifts.specs.Shifts.{addFor, Takes, registersFrom, Already, moveFor, Doubling, Agrees}
 use Rattle.shifts.proofs.Codes.{Plain, Alike, move-plain, shift-plain, add-plain, both-alike, completes, unconditional, stores}
 use Rattle.shifts.proofs.Doubled.{doubled}
 
@@ -142,7 +142,9 @@ module _ (code b a : ℕ) (ws us : List ℕ) (rs : List Row) (xs ys : List ℕ) 
   agree : (c : Bool) → Leaving xs shifted (shiftLeftOf (rangeOf word) (numberIn word xs g b) c)
       → Leaving ys added (sumOf (rangeOf word) (numberIn word ys g a) (numberIn word ys g a) c) → Agrees shifted added
   agree c h l =
-      let same = rw (← given .same .held, doubled word ys g a c (k .flags) (given .already .bytes)) at h in
+      let twice : shiftLeftOf (rangeOf word) (numberIn word xs g b) c ≡ sumOf (rangeOf word) (numberIn word ys g a) (numberIn word ys g a) c
+      = ap (λ (q : ℕ). shiftLeftOf (rangeOf word) q c) (sym (given .same .held)) ∙ doubled word ys g a c (k .flags) (given .already .bytes) in
+      let same = rw twice at h in
       record {
         registers = same-files g a word _ _ _ _ (attempt-in-range ws rs xs k s (given .rows) (given .state) (given .sample))
             (attempt-in-range us rs ys k s (given .rows) (given .already) (given .sample))
