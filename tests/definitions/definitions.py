@@ -186,7 +186,7 @@ def write(page, words):
 def check(page, words):
     rows, listed = rows_of(page), list(changes())
     checks = [(f"{named(c)}: doesn't fit the tree, or its law isn't there", fits(c)) for c in listed]
-    checks += [(f"{page}: no row of {named(c)}", key(c) in rows) for c in listed]
+    checks += [(f"{page}: no row of {named(c)}, or another", rows.get(key(c)) == row(c)) for c in listed]
     checks += [(f"{page}: a row of no change: {k}", k in map(key, listed)) for k in rows]
     checks += [(f"{named(c)}: gives another row", tried(c) == rows.get(key(c))) for c in chosen(words)]
     wrong = [what for what, holds in checks if not holds]

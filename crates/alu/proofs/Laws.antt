@@ -1,4 +1,4 @@
--- Laws of one byte cycle, and of sums and differences of any number of bytes: each proved once, over the number of bytes.
+-- Laws of one byte cycle, and of sums, left shifts and differences of any number of bytes: each proved once, over the number of bytes.
 -- Assumes nothing.
 use Prim.Native.Nat.{ℕ, suc, _+_, _-_, _*_, _^_, _%_, _<_}
 use mathlib.Core.Path.{_≡_, refl, ap, ap₂, _∙_, sym}
@@ -242,12 +242,13 @@ pub left-adds : (q : ℕ) (c : Bool) → q < 256 → leftOf q c ≡ addOf q q c
 unfolding leftOf addOf
 left-adds q c h =
     let result : leftOf q c .result ≡ addOf q q c .result = omega (arith, bit-le c) in
+    let carry = same-tests (λ d x. leftOf x d .c8) (λ d x. addOf x x d .c8) tt tt q c h in
     λ i. record {
       result = result i;
       c4 = same-tests (λ d x. leftOf x d .c4) (λ d x. addOf x x d .c4) tt tt q c h i;
-      c8 = same-tests (λ d x. leftOf x d .c8) (λ d x. addOf x x d .c8) tt tt q c h i;
+      c8 = carry i;
       v = same-tests (λ d x. leftOf x d .v) (λ d x. addOf x x d .v) tt tt q c h i;
-      c = same-tests (λ d x. leftOf x d .c) (λ d x. addOf x x d .c) tt tt q c h i;
+      c = carry i;
     }
 
 -- "The boards set V when a left shift changes the sign"
@@ -276,3 +277,16 @@ double-law qs c b = rw (shifted-bytes qs c b, shifted-out qs c b) (sum-law qs qs
 pub v-double-law : (q : ℕ) (qs : List ℕ) (c v : Bool) → Bytes (q ∷ qs)
     → shiftedV (q ∷ qs) c v ≡ sumOutside (half (length qs)) (value (q ∷ qs)) (value (q ∷ qs)) c
 v-double-law q qs c v b = shifted-v (q ∷ qs) c v b ∙ v-law q q qs qs c v b b refl
+
+-- and that the sign changes
+pub shifted-sign : (q : ℕ) (qs : List ℕ) (c v : Bool) → Bytes (q ∷ qs)
+    → let h = half (length qs) in
+    shiftedV (q ∷ qs) c v ≡ not (Bool·beq (leb h (value (shiftedBytes (q ∷ qs) c))) (leb h (value (q ∷ qs))))
+shifted-sign q [] c v b = simp add-zero (left-sign q c (b .0))
+shifted-sign q (x ∷ qs) c v b =
+    let r : leftOf q c .result < 256 = rw (left-adds q c (b .0)) (result-byte q q c) in
+    shifted-sign x qs (leftOf q c .c8) (leftOf q c .v) (b .1)
+    ∙ ap₂ (λ s t. not (Bool·beq s t))
+    (digit-from (leftOf q c .result) (value (shiftedBytes (x ∷ qs) (leftOf q c .c8))) (half (length qs)) r)
+    (digit-from q (value (x ∷ qs)) (half (length qs)) (b .0))
+    ∙ ap (λ (h : ℕ). not (Bool·beq (leb h (value (shiftedBytes (q ∷ x ∷ qs) c))) (leb h (value (q ∷ x ∷ qs))))) (sym (step-up 128 (length qs)))

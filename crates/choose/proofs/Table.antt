@@ -1,6 +1,6 @@
 -- From a test that antt computed to the rule at each number below n, and at each entry of a table: by induction over n, over the table.
 use mathlib.Core.Path.{_≡_, _∙_, ap, refl, subst, sym}
-use mathlib.Core.Bool.{Bool, true, false, false≢true}
+use mathlib.Core.Bool.{Bool, true, false, Bool·beq, false≢true}
 use mathlib.Core.List.{List, [], _∷_}
 use Prim.Native.Nat.{ℕ, zero, suc, _+_, _<_}
 use native.Mathlib.Nat.{add-zero, zero-add, add-suc, suc-add, le-of-suc-le-suc, not-suc-le-zero}
@@ -9,8 +9,8 @@ use native.Mathlib.Omega.{arith}
 use lib.Dec.{T, ltb, eqb, eqb→eq}
 use lib.ListN.{length, getD}
 use borrow.Author.Tests.{ltb-true, ltb-false}
-use Rattle.choose.specs.Below.{allBelow, allEqual, every, firsts}
-use Rattle.choose.proofs.Tests.{both-left, both-right, holds}
+use Rattle.choose.specs.Below.{allBelow, allEqual, allSame, every, firsts}
+use Rattle.choose.proofs.Tests.{both-left, both-right, equal-tests, holds}
 
 -- the pairs' equations, one after the other
 abbrev pub Equal : List (ℕ × ℕ) → Type 0
@@ -22,6 +22,17 @@ all-equal [] t = tt
 all-equal (p ∷ ps) t =
     let first = eqb (p .0) (p .1) in
     (eqb→eq (p .0) (p .1) (both-left first (allEqual ps) t), all-equal ps (both-right first (allEqual ps) t))
+
+-- and of pairs of tests
+abbrev pub SameTests : List (Bool × Bool) → Type 0
+SameTests [] = Unit {0}
+SameTests (p ∷ ps) = (p .0 ≡ p .1) × SameTests ps
+
+pub all-same-tests : (ps : List (Bool × Bool)) → T (allSame ps) → SameTests ps
+all-same-tests [] t = tt
+all-same-tests (p ∷ ps) t =
+    let first = Bool·beq (p .0) (p .1) in
+    (equal-tests (p .0) (p .1) (both-left first (allSame ps) t), all-same-tests ps (both-right first (allSame ps) t))
 
 -- a test that passed at all numbers below n passed at each
 pub below : (n : ℕ) (f : ℕ → Bool) → T (allBelow n f) → (k : ℕ) → k < n → T (f k)

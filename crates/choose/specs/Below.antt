@@ -1,6 +1,6 @@
 -- Tests over every number below n, and over every entry of a table: what the checker computes.
 use Prim.Native.Nat.{ℕ, zero, suc}
-use mathlib.Core.Bool.{Bool, true, false, _&&_}
+use mathlib.Core.Bool.{Bool, true, false, _&&_, Bool·beq}
 use mathlib.Core.List.{List, [], _∷_}
 use lib.Dec.{eqb}
 
@@ -13,6 +13,11 @@ allBelow (suc n) f = f n && allBelow n f
 abbrev pub allEqual : List (ℕ × ℕ) → Bool
 allEqual [] = true
 allEqual (p ∷ ps) = eqb (p .0) (p .1) && allEqual ps
+
+-- the tests of each pair are the same
+abbrev pub allSame : List (Bool × Bool) → Bool
+allSame [] = true
+allSame (p ∷ ps) = Bool·beq (p .0) (p .1) && allSame ps
 
 -- one more where the test holds
 abbrev pub more : Bool → ℕ → ℕ

@@ -1,15 +1,14 @@
 -- What 01's lists say of the codes of left shifts and their adds: tests that antt computes over the codes; and so both are completed. Assumes nothing.
 use Prim.Native.Nat.{ℕ, _+_, _%_, _<_, _≤_}
 use mathlib.Core.Path.{_≡_, refl, sym}
-use mathlib.Core.Bool.{Bool, true, false, not, _&&_, _||_, Bool·beq}
+use mathlib.Core.Bool.{Bool, true, false, not, _&&_, _||_}
 use mathlib.Core.List.{List, [], _∷_}
 use native.Mathlib.Omega.{arith}
 use lib.Dec.{T, leb, ltb}
 use borrow.Author.Tests.{lt-ltb, ltb-true, leb-true, ne-eqb}
 use Rattle.attempt_laws.specs.Fate.{within, odd, noCode, twoCycle, inputWord, oddPair, noOption, mustWait, wordFate, takenWord, fateOf, completed}
-use Rattle.choose.proofs.Table.{below}
-use Rattle.choose.proofs.Tests.{both-left, both-right, equal-tests}
-use Rattle.choose.specs.Below.{allBelow}
+use Rattle.choose.proofs.Table.{SameTests, all-same-tests, below}
+use Rattle.choose.specs.Below.{allBelow, allSame}
 use Rattle.choose.specs.Ranged.{pick}
 use Rattle.state.specs.declared.Core.{Core}
 use Rattle.state.specs.declared.Sample.{Sample}
@@ -19,21 +18,7 @@ use Rattle.table_laws.specs.Set.{conditionFails, ConditionHolds, oddCode, wordC
 use Rattle.table_laws.specs.Table.{comparesOrTests}
 use Rattle.shifts.specs.Shifts.{isShift, addFor, Takes, registersFrom, moveFor}
 
--- ---- pairs of tests that are the same
-
-abbrev allSame : List (Bool × Bool) → Bool
-allSame [] = true
-allSame (p ∷ ps) = Bool·beq (p .0) (p .1) && allSame ps
-
-abbrev Same : List (Bool × Bool) → Type 0
-Same [] = Unit {0}
-Same (p ∷ ps) = (p .0 ≡ p .1) × Same ps
-
-same : (ps : List (Bool × Bool)) → T (allSame ps) → Same ps
-same [] t = tt
-same (p ∷ ps) t =
-    let first = Bool·beq (p .0) (p .1) in
-    (equal-tests (p .0) (p .1) (both-left first (allSame ps) t), same ps (both-right first (allSame ps) t))
+-- ---- the codes
 
 -- from 80 to DF, listed, without condition, a word operation by its two cycles alone; writes the pair, or Ra
 abbrev facts : ℕ → List (Bool × Bool)
@@ -54,7 +39,7 @@ pub record Plain (x : ℕ) : Type 0 where
   pub no-rb : storesBoth x ≡ false
   pub ra : storesRa x ≡ not (wordCode x)
 
-plain : (x : ℕ) → Same (facts x) → Plain x
+plain : (x : ℕ) → SameTests (facts x) → Plain x
 plain x (f, (h, (l, (c, (i, (t, (n, (p, (b, (r, u)))))))))) =
     record {
       from = leb-true 0x80 x f;
@@ -84,10 +69,10 @@ pub record Alike (x : ℕ) : Type 0 where
   pub odd : oddCode (addFor x) ≡ oddCode x
 
 module _ (code : ℕ) (shift : isShift code ≡ true) where
-  of-shifts : (test : ℕ → List (Bool × Bool)) → T (allBelow 0x90 (λ x. pick (isShift x) (allSame (test x)) true)) → Same (test code)
+  of-shifts : (test : ℕ → List (Bool × Bool)) → T (allBelow 0x90 (λ x. pick (isShift x) (allSame (test x)) true)) → SameTests (test code)
   of-shifts test t =
       let h = within-is 0x88 0x8F code shift in
-      same (test code) (rw shift at (below 0x90 (λ x. pick (isShift x) (allSame (test x)) true) t code (omega arith)))
+      all-same-tests (test code) (rw shift at (below 0x90 (λ x. pick (isShift x) (allSame (test x)) true) t code (omega arith)))
 
   pub shift-plain : Plain code
   unfolding noCode storesWord storesBoth storesRa storesByte comparesOrTests
@@ -105,13 +90,13 @@ module _ (code : ℕ) (shift : isShift code ≡ true) where
 
 pub move-plain : (word : Bool) → Plain (moveFor word)
 unfolding noCode storesWord storesBoth storesRa storesByte comparesOrTests
-move-plain true = plain (moveFor true) (same (facts (moveFor true)) tt)
-move-plain false = plain (moveFor false) (same (facts (moveFor false)) tt)
+move-plain true = plain (moveFor true) (all-same-tests (facts (moveFor true)) tt)
+move-plain false = plain (moveFor false) (all-same-tests (facts (moveFor false)) tt)
 
 -- ---- an instruction of such a code
 
-is-even : (n : ℕ) → n % 2 ≡ 0 → odd n ≡ false
-is-even n e = ne-eqb (n % 2) 1 (λ h. omega arith)
+not-odd : (n : ℕ) → n % 2 ≡ 0 → odd n ≡ false
+not-odd n e = ne-eqb (n % 2) 1 (λ h. omega arith)
 
 module _ (code b a : ℕ) (is : Plain code) (even : wordCode code ≡ true → (a % 2 ≡ 0) × (b % 2 ≡ 0)) where
   pairs-even : oddPair code b a ≡ false
@@ -119,7 +104,7 @@ module _ (code b a : ℕ) (is : Plain code) (even : wordCode code ≡ true → (
   pairs-even = rw (is .no-input) (go (twoCycle code) (is .two))
     where
       go : (t : Bool) → t ≡ wordCode code → (t && (odd a || odd b)) || (false && odd a) ≡ false
-      go true e = rw (is-even a (even (sym e) .0), is-even b (even (sym e) .1))
+      go true e = rw (not-odd a (even (sym e) .0), not-odd b (even (sym e) .1))
       go false e = refl
 
   no-option : noOption code b ≡ false

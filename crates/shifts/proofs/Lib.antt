@@ -1,3 +1,4 @@
 pub mod Codes
 pub mod Doubled
 pub mod Theorem
+pub mod Example

@@ -69,9 +69,9 @@ module _ (code b a : ℕ) (is : Plain code) (even : wordCode code ≡ true → (
 
 module _ (g a : ℕ) where
   -- a place is that of Ra, that of the pair's high byte, or of neither
-  every-place : (P : ℕ → Type 0) (word : Bool) → P (slotOf g a) → (word ≡ true → P (slotOf g (a + 1)))
+  by-place : (P : ℕ → Type 0) (word : Bool) → P (slotOf g a) → (word ≡ true → P (slotOf g (a + 1)))
       → ((i : ℕ) → Elsewhere g (registersFrom word a) i → P i) → (i : ℕ) → P i
-  every-place P word ra high others i = go word refl (eqb i (slotOf g a)) refl (eqb i (slotOf g (a + 1))) refl
+  by-place P word ra high others i = go word refl (eqb i (slotOf g a)) refl (eqb i (slotOf g (a + 1))) refl
     where
       go : (w : Bool) → word ≡ w → (s : Bool) → eqb i (slotOf g a) ≡ s → (t : Bool) → eqb i (slotOf g (a + 1)) ≡ t → P i
       go w e true j t l = rw (eqb-true i (slotOf g a) j) ra
@@ -84,7 +84,7 @@ module _ (g a : ℕ) where
       → ((i : ℕ) → Elsewhere g (registersFrom word a) i → getD es i 0 ≡ getD ds i 0) → es ≡ ds
   unfolding registerOf
   same-files word es ds k m h l number others =
-      ext-getD 0 es ds (h .size ∙ sym (l .size)) (λ i j. every-place (λ (n : ℕ). getD es n 0 ≡ getD ds n 0) word (ra word number) (high word number) others i)
+      ext-getD 0 es ds (h .size ∙ sym (l .size)) (λ i j. by-place (λ (n : ℕ). getD es n 0 ≡ getD ds n 0) word (ra word number) (high word number) others i)
     where
       ra : (w : Bool) → numberIn w es g a ≡ numberIn w ds g a → registerOf es g a ≡ registerOf ds g a
       ra false e = e
@@ -158,7 +158,7 @@ module _ (code b a : ℕ) (ws us : List ℕ) (rs : List Row) (xs ys : List ℕ) 
   add-performs : (i : ℕ) → i < length operations → Gives us rs ys k s (addFor code) a a (getD operations i noLine)
   add-performs = performs (addFor code) a a (add-plain code (given .shift)) even-a us rs ys k s (given .adds) (given .already) (given .sample)
 
-  -- 02, L2. Lines 8 and 15 of the operations are the shifts and the adds with carry, 9 and 14 those without
+  -- 02, L2. Counted from 0, lines 8 and 15 of the operations are the shifts and the adds with carry, 9 and 14 those without
   pub left-shift-agrees : Agrees shifted added
   left-shift-agrees = go (within 0x88 0x8B code) refl
     where
@@ -180,20 +180,37 @@ move-within : (word : Bool) → within 0x80 0x87 (moveFor word) ≡ true
 move-within true = refl
 move-within false = refl
 
--- there are such registers to every state: the move of b to a leaves them. Line 7 is the moves
+-- there are such registers for every state: the move of b to a leaves them. Line 7 is the moves
 pub moved-already : (word : Bool) (b a : ℕ) (vs : List ℕ) (rs : List Row) (xs : List ℕ) (k : Core) (s : Sample) → rowsInRange rs ≡ true → InRange xs k
     → SampleInRange s → (word ≡ true → (a % 2 ≡ 0) × (b % 2 ≡ 0)) → Takes (moveFor word) b a vs k s
-    → Already word (k .latches .g) b a xs (attemptOf vs rs xs k s .file)
+    → let ys = attemptOf vs rs xs k s .file in
+    Already word (k .latches .g) b a xs ys × InRange ys k
 unfolding logicalOf
 moved-already word b a vs rs xs k s rows range sample even takes =
     let is = move-plain word in
     let same = move-word word in
     let even-pair : wordCode (moveFor word) ≡ true → (a % 2 ≡ 0) × (b % 2 ≡ 0) = λ e. even (sym same ∙ e) in
     let moves = performs (moveFor word) b a is even-pair vs rs xs k s takes range sample 7 (omega arith) (move-within word) in
-    record {
-      held = rw same at (moves .stored refl);
-      others = record {
-        size = attempt-in-range vs rs xs k s rows range sample .size ∙ sym (range .size);
-        byte = λ i n. places (moveFor word) b a is even-pair vs rs xs k s takes range sample i (rw same n);
-      };
-    }
+    let after = attempt-in-range vs rs xs k s rows range sample in (
+      record {
+        held = rw same at (moves .stored refl);
+        others = record {
+          size = after .size ∙ sym (range .size);
+          byte = λ i n. places (moveFor word) b a is even-pair vs rs xs k s takes range sample i (rw same n);
+        };
+      },
+      record {
+        size = after .size;
+        bytes = after .bytes;
+        g = range .g;
+        lc = range .lc;
+        rr = range .rr;
+        tr = range .tr;
+        m = range .m;
+        tsr = range .tsr;
+        interrupts = range .interrupts;
+        modification = range .modification;
+        unmarked = range .unmarked;
+        outputs = range .outputs;
+      },
+    )

@@ -99,16 +99,16 @@ ones-byte : (q : ℕ) → Same (complementOf 256 q) (onesOf q)
 unfolding onesOf complementOf
 ones-byte q = record { number = refl; negative = refl; c4 = refl; c8 = refl; v = refl; c = refl }
 
--- "the carry into the top position differing from the carry out of it", whatever comes in
-turned : (m x n y : ℕ) (c : Bool) → (m ≤ x → n ≤ y) → (x < m → y + 2 ≤ n) → leb m x ≡ leb n (y + bit c)
-turned m x n y c f g = same-from m x n (y + bit c) (λ l. omega (arith, f l)) (λ l. omega (arith, g l, bit-le c))
+-- a carry of a number doubled, whatever comes in at the low end
+doubled-carry : (m x n y : ℕ) (c : Bool) → (m ≤ x → n ≤ y) → (x < m → y + 2 ≤ n) → leb m x ≡ leb n (y + bit c)
+doubled-carry m x n y c f g = same-from m x n (y + bit c) (λ l. omega (arith, f l)) (λ l. omega (arith, g l, bit-le c))
 
 left-byte : (q : ℕ) (c : Bool) → Same (shiftLeftOf 256 q c) (leftOf q c)
 unfolding leftOf shiftLeftOf
 left-byte q c =
     let e : q * 2 % 256 + bit c ≡ (q * 2 + bit c) % 256 = omega (arith, bit-le c) in
-    let into = turned 64 (q % 128) 128 (q % 128 * 2) c (λ l. omega arith) (λ l. omega arith) in
-    let out = turned 128 q 256 (q * 2) c (λ l. omega arith) (λ l. omega arith) in
+    let into = doubled-carry 64 (q % 128) 128 (q % 128 * 2) c (λ l. omega arith) (λ l. omega arith) in
+    let out = doubled-carry 128 q 256 (q * 2) c (λ l. omega arith) (λ l. omega arith) in
     record { number = e; negative = ap (leb 128) e; c4 = refl; c8 = refl; v = ap₂ (λ i o. not (Bool·beq i o)) into out; c = refl }
 
 bit-seven : (x : ℕ) → x < 256 → leb 128 x ≡ odd (x / 128)
@@ -257,8 +257,8 @@ module _ (p₀ p₁ q₀ q₁ : ℕ) (c : Bool) (f : Flags) (hp₀ : p₀ < 256)
       let e : low + 256 * high ≡ (Q * 2 + bit c) % 65536 = omega (arith, twice q₀ hq₀, twice q₁ hq₁, bit-le c, bit-le (leb 128 q₀), bit-le (leb 128 q₁)) in
       let d : q₁ / 8 ≡ Q / 2048 = omega arith in
       let m : Q % 32768 ≡ q₀ + 256 * (q₁ % 128) = omega arith in
-      let into = turned 64 (q₁ % 128) 32768 (Q % 32768 * 2) c (λ l. omega arith) (λ l. omega arith) in
-      let out = turned 128 q₁ 65536 (Q * 2) c (λ l. omega arith) (λ l. omega arith) in
+      let into = doubled-carry 64 (q₁ % 128) 32768 (Q % 32768 * 2) c (λ l. omega arith) (λ l. omega arith) in
+      let out = doubled-carry 128 q₁ 65536 (Q * 2) c (λ l. omega arith) (λ l. omega arith) in
       record {
         number = e;
         negative = digit-from low high 128 (omega (arith, bit-le c)) ∙ ap (leb 32768) e;

@@ -60,12 +60,14 @@ complementOf h q = record { number = h - 1 - q; negative = leb (h / 2) (h - 1 - 
 -- "Shift left: C8 and C are bit 7, C4 bit 3"; 02, L2: "V is now the carry into the top position differing from the carry out of it"
 unfoldable pub shiftLeftOf : ℕ → ℕ → Bool → Result
 shiftLeftOf h q c =
+    let into = leb (h / 2) (q % (h / 2) * 2 + bit c) in
+    let out = leb h (q * 2 + bit c) in
     record {
       number = (q * 2 + bit c) % h;
       negative = leb (h / 2) ((q * 2 + bit c) % h);
       c4 = odd (q / (h / 32));
       c8 = leb (h / 2) q;
-      v = not (Bool·beq (leb (h / 2) (q % (h / 2) * 2 + bit c)) (leb h (q * 2 + bit c)));
+      v = not (Bool·beq into out);
       c = leb (h / 2) q;
     }
 

@@ -81,7 +81,7 @@ pub fn all(code: &Code) -> Vec<Demand> {
         }
     }
     let rules = [
-        jumps, literals, conditions, registers, halves, lefts, pairs, options, waits, ignored,
+        jumps, literals, conditions, registers, halves, shifts, pairs, options, waits, ignored,
         nothing,
     ];
     all.extend(rules.iter().flat_map(|rule| rule(top)));
@@ -187,9 +187,9 @@ fn halves(top: u8) -> Vec<Demand> {
     names.into_iter().map(named).collect()
 }
 
-/// Left shifts: the top two bits each way, with C 0 and 1.
-fn lefts(top: u8) -> Vec<Demand> {
-    if !matches!(top, 0x88..=0x8F) {
+/// Shifts: the top two bits each way, with C 0 and 1.
+fn shifts(top: u8) -> Vec<Demand> {
+    if !matches!(top, 0x88..=0x8F | 0xD8..=0xDF) {
         return Vec::new();
     }
     let both = |bits: u8| {

@@ -8,10 +8,10 @@ mod halves;
 mod inputs;
 mod interrupts;
 mod jumps;
-mod left;
 mod refused;
 mod registers;
 mod rows;
+mod shifts;
 
 use crate::choose::{choose, Chosen};
 use crate::code::{Code, Format};
@@ -54,7 +54,7 @@ fn with_operands(code: &Code, chosen: Chosen) -> Vec<Draft> {
     });
     let halves = halves::drafts(code, &drafts);
     drafts.extend(halves);
-    drafts.extend(left::drafts(code, ordinary));
+    drafts.extend(shifts::drafts(code, ordinary));
     drafts.push(registers::through_g(code, ordinary));
     drafts.extend(registers::odd(code, ordinary));
     drafts

@@ -1,4 +1,4 @@
-//! Left shifts: V by the top two bits of what is shifted, whatever C is.
+//! Shifts: V by the top two bits of what is shifted, whatever C is; right shifts clear it.
 
 use crate::code::Code;
 use crate::draft::{high, low, Draft};
@@ -6,7 +6,7 @@ use crate::operands::Operands;
 use crate::shows;
 
 /// The top two bits and a word that has them; a byte is its high byte. Bits 6 and 5 of that byte, bits
-/// 3 and 2, and the top two of the low byte would give the other V.
+/// 3 and 2, and the top two of the low byte would give the other V of a left shift.
 const TOPS: [(&str, u16); 4] = [
     ("00", 0x3A8D),
     ("01", 0x6C31),
@@ -14,21 +14,20 @@ const TOPS: [(&str, u16); 4] = [
     ("11", 0xC772),
 ];
 
-/// Drafts for the left shifts.
+/// Drafts for the shifts.
 pub fn drafts(code: &Code, ordinary: &Operands) -> Vec<Draft> {
-    if !matches!(code.top, 0x88..=0x8F) {
-        return Vec::new();
-    }
+    let tells = match code.top {
+        0x89 | 0x8B | 0x8D | 0x8F => "V tells whether they differ",
+        0xD9 | 0xDB | 0xDD | 0xDF => "V is cleared",
+        0x88..=0x8F | 0xD8..=0xDF => "V is kept",
+        _ => return Vec::new(),
+    };
     let both = |&(bits, word): &(&str, u16)| {
         let operands = Operands {
             q: Some(if code.pairs() { word } else { word >> 8 }),
             // C is the background's.
             input: None,
             ..ordinary.clone()
-        };
-        let tells = match code.top & 1 {
-            0 => "V is kept",
-            _ => "V tells whether they differ",
         };
         let shows = |level: &str| {
             let operands = shows::written(code, &operands);
