@@ -3,7 +3,7 @@
 # make bench: engine against interpreter, and a line of the assembler and the lister in short and long texts.
 # make soak: decks over and over for a night, or DECKS="mine.deck .." HOURS=8 or RUNS=COUNT, JOBS=COUNT, LOG=FILE. docs/SOAK.md says more.
 # make fuzz: the fuzzer for ten minutes, or for FOR=SECONDS.
-# make definitions: each change of code and definition alike, and docs/DEFINITIONS.md anew; it takes an hour. ONLY="WORD ..": some of them.
+# make definitions: each change of code and definition alike, and docs/DEFINITIONS.md anew; it takes 45 minutes. ONLY="WORD ..": some of them.
 .PHONY: run test vectors requirements listing bench soak fuzz definitions
 
 run:
