@@ -1,16 +1,7 @@
 /* Every byte add and subtract, 65,536 operands with each carry in, against a computation of its own:
-   signed and unsigned sums in int, where the library counts in bytes. */
-#include <stdbool.h>
-#include <stdint.h>
+   signed and unsigned sums in int, where the library has nets. */
+#include "adder.h"
 #include <stdio.h>
-
-typedef struct {
-    uint8_t result;
-    bool c4, c8, v, c;
-} cycle;
-
-cycle alu_add(uint8_t p, uint8_t q, bool carry);
-cycle alu_subtract(uint8_t p, uint8_t q, bool carry);
 
 static bool same(cycle a, cycle b)
 {

@@ -29,7 +29,7 @@ bit-not true false e = refl
 bit-not false true e = refl
 bit-not false false e = absurd (omega arith)
 
--- a byte with 128 added, as the code works it out
+-- a byte with 128 added, by a remainder
 pub biased-byte : (p : ℕ) → p < 256 → (p + 128) % 256 ≡ biased 128 p
 biased-byte p h = go (ltb p 128) refl
   where

@@ -1,3 +1,4 @@
 pub mod Cycle
 pub mod Marks
+pub mod Nets
 pub mod Numbers

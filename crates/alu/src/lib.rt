@@ -40,19 +40,21 @@ pub enum Kind {
     Right,
 }
 
+// The one adder, of sums, differences, complements, increments and decrements: bit i of `nets` is the carry into position i.
 pub fn add(p: u8, q: u8, carry: bool) -> Cycle
     ensures { λ r. ⌜ r ≡ addOf p q carry ⌝ }
 {
-    let k = bit_of(carry) as u16;
-    let sum = p as u16 + q as u16 + k;
-    let digits = p as u16 % 16 + q as u16 % 16 + k;
-    let signed = (p as u16 + 128) % 256 + (q as u16 + 128) % 256 + k;
+    let sum = p as u16 + q as u16 + bit_of(carry) as u16;
+    let nets = p as u16 ^ q as u16 ^ sum;
+    let into_4 = (nets >> 4 & 1) == 1;
+    let into_7 = (nets >> 7 & 1) == 1;
+    let out = (nets >> 8 & 1) == 1;
     Cycle {
         result: (sum % 256) as u8,
-        c4: 16 <= digits,
-        c8: 256 <= sum,
-        v: (signed < 128) | (384 <= signed),
-        c: 256 <= sum,
+        c4: into_4,
+        c8: out,
+        v: into_7 != out,
+        c: out,
     }
 }
 
@@ -82,16 +84,11 @@ pub fn kept(result: u8, f: Flags) -> Cycle
     }
 }
 
+// 0 less q and a borrow: the inverted operand alone, so that no net is high.
 fn ones(q: u8) -> Cycle
     ensures { λ r. ⌜ r ≡ onesOf q ⌝ }
 {
-    Cycle {
-        result: 255 - q,
-        c4: false,
-        c8: false,
-        v: false,
-        c: true,
-    }
+    subtract(0, q, false)
 }
 
 fn left(q: u8, carry: bool) -> Cycle
