@@ -29,14 +29,6 @@ bit-not true false e = refl
 bit-not false true e = refl
 bit-not false false e = absurd (omega arith)
 
--- a byte with 128 added, by a remainder
-pub biased-byte : (p : ℕ) → p < 256 → (p + 128) % 256 ≡ biased 128 p
-biased-byte p h = go (ltb p 128) refl
-  where
-    go : (t : Bool) → ltb p 128 ≡ t → (p + 128) % 256 ≡ pick t (p + 128) (p - 128)
-    go true e = omega (arith, ltb-true p 128 e)
-    go false e = omega (arith, ltb-false p 128 e)
-
 pub result-byte : (p q : ℕ) (c : Bool) → addOf p q c .result < 256
 unfolding addOf
 result-byte p q c = omega arith

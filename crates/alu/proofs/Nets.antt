@@ -1,5 +1,5 @@
 -- The nets of the adder are its carries: proved once, over the position. C4, C8 and V are instances. Assumes nothing.
-use Prim.Native.Nat.{ℕ, zero, suc, _+_, _*_, _/_, _%_, _^_, _≤_, _<_}
+use Prim.Native.Nat.{ℕ, zero, suc, _+_, _-_, _*_, _/_, _%_, _^_, _≤_, _<_}
 use mathlib.Core.Path.{_≡_, refl, ap, ap₂, _∙_, sym}
 use mathlib.Core.Bool.{Bool, true, false, not, _||_, Bool·beq, or-true}
 use native.Mathlib.Omega.{arith}
@@ -8,13 +8,12 @@ use lib.Arith.{mod-mul}
 use lib.Bits.{bitAnd, bitXor, xor-shr, xor-add-and, and-mask}
 use lib.Dec.{eqb, leb, ltb}
 use lib.Pow.{pow-pos, shr-shr}
-use borrow.Author.Tests.{leb-true, leb-false, lt-ltb, le-ltb, le-leb, lt-leb}
+use borrow.Author.Tests.{leb-true, leb-false, ltb-true, ltb-false, lt-ltb, le-ltb, le-leb, lt-leb}
 use Rattle.choose.specs.Bits.{bitAt}
-use Rattle.choose.specs.Ranged.{bit}
+use Rattle.choose.specs.Ranged.{bit, pick}
 use Rattle.choose.proofs.Tests.{same-from, bit-le, is-bit}
 use Rattle.alu.specs.Cycle.{addOf, biased}
 use Rattle.alu.specs.Nets.{carryInto, netOf, netsOf}
-use Rattle.alu.proofs.Laws.{biased-byte}
 
 -- ---- position 0
 
@@ -101,7 +100,11 @@ outside m d n s false false hm hd en es a b =
     rw (le-ltb s 128 (omega arith), lt-leb 384 s (omega arith)) refl
 
 signed-byte : (p : ℕ) → p < 256 → biased 128 p + 128 * (p / 128) ≡ p % 128 + 128
-signed-byte p h = omega (arith, biased-byte p h)
+signed-byte p h = go (ltb p 128) refl
+  where
+    go : (t : Bool) → ltb p 128 ≡ t → pick t (p + 128) (p - 128) + 128 * (p / 128) ≡ p % 128 + 128
+    go true e = omega (arith, ltb-true p 128 e)
+    go false e = omega (arith, ltb-false p 128 e)
 
 -- "V says that the one into 7 differs from the one out of it"
 pub v-net : (p q : ℕ) (c : Bool) → p < 256 → q < 256 → addOf p q c .v ≡ not (Bool·beq (netOf 7 p q c) (netOf 8 p q c))
