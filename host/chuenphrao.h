@@ -40,7 +40,7 @@
 enum { DECK_MOST = 65536, WORD_BYTES = 4, ROW_BYTES = 16, STATE_BYTES = 42, SAMPLE_BYTES = 4, REQUEST_BYTES = 4 };
 
 /* The answers. Of several that apply the first in this order is given: 9, 1, 2, 3, 4, then at each
-   attempt 5, 6, 7, 8. An attempt with RESET high or COMPUTE low is never refused. */
+   attempt 5, 6, 8. An attempt with RESET high or COMPUTE low is never refused. */
 enum {
     ANSWER_DONE = 0,    /* all samples used */
     ANSWER_STATE = 1,   /* state out of range */
@@ -50,7 +50,8 @@ enum {
                            than the samples */
     ANSWER_NO_WORD = 5, /* LC has no word */
     ANSWER_CODE = 6,    /* code unlisted, or AC */
-    ANSWER_PAIR = 7,    /* odd designator where a pair is needed */
+    ANSWER_PAIR = 7,    /* reserved, no longer given: it was odd designator where a pair is
+                           needed */
     ANSWER_OPTION = 8,  /* option not listed */
     ANSWER_DECK = 9,    /* deck over 65,536 bytes, state count not 1, length other than its counts say,
                            or the state buffer not STATE_BYTES bytes */
@@ -93,7 +94,7 @@ typedef struct {
      answer    attempts and          state holds             requests holds
                microcycles
      0         those of all samples  the state after them    a request for each sample
-     5-8       those before the      the state before the    a request for each attempt made;
+     5, 6, 8   those before the      the state before the    a request for each attempt made;
                refused attempt       refused attempt         the other places are as found
      1-4, 9    0 and 0               what it held before     what it held before */
 report run(const uint8_t *deck, size_t deck_len, uint8_t *requests, size_t requests_len,

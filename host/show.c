@@ -15,7 +15,7 @@ static const char *const answers[] = {
     [ANSWER_SAMPLES] = "a sample out of range",
     [ANSWER_NO_WORD] = "LC has no word",
     [ANSWER_CODE] = "code unlisted, or AC",
-    [ANSWER_PAIR] = "odd designator where a pair is needed",
+    [ANSWER_PAIR] = "no longer given",
     [ANSWER_OPTION] = "option not listed",
     [ANSWER_DECK] = "deck over 65,536 bytes, state count not 1, or length other than its counts say",
 };

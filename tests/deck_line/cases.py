@@ -27,7 +27,8 @@ def at(lc, rr=0):
 
 CASES = [
     ("add R3 to R2, the deck program's example", deck([0xA132], {12: 255, 13: 1}), "0 1 1 1 87"),
-    ("A232", deck([0xA232]), "7 0 0 0 0"),
+    ("A232 executed", deck([0xA232]), "0 1 2 1 4"),
+    ("A232 crosswise: 7F+01 is 80, 01+80 is 81", deck([0xA232], {12: 127, 13: 1}), "0 1 2 1 8"),
     ("A222 executed", deck([0xA222]), "0 1 2 1 4"),
     ("7800", deck([0x7800]), "6 0 0 0 0"),
     ("AD32", deck([0xAD32]), "6 0 0 0 0"),

@@ -95,7 +95,7 @@ static void check_state(const uint8_t *state)
 /* due is the refusal that the call has to get, or 0. */
 static void check_counts(const call *made, unsigned due, report is)
 {
-    bool refused = is.answer >= ANSWER_NO_WORD && is.answer <= ANSWER_OPTION;
+    bool refused = is.answer == ANSWER_NO_WORD || is.answer == ANSWER_CODE || is.answer == ANSWER_OPTION;
     expect(due ? is.answer == due : is.answer == ANSWER_DONE || refused, "the answer is the one of 01");
     if (due)
         expect(is.attempts == 0 && is.microcycles == 0, "nothing was attempted");

@@ -80,7 +80,7 @@ module _ (w : ℕ) (o : Outputs) (xs : List ℕ) (k : Core) (s : Sample) where
   of-class Class.Literal e l = rw (cycles-as Class.Literal e l, runs-on Class.Literal e l refl)
   of-class Class.Register e l =
       rw (
-        refusal-by-row (topOf w) (w / 0x10 % 0x10) (w % 0x10) (rw e l) (omega arith),
+        refusal-by-row (topOf w) (w / 0x10 % 0x10) (rw e l),
         waiting-by-row (topOf w) s (rw e l),
         cycles-as Class.Register e l,
       )
@@ -140,7 +140,7 @@ module _ (xs : List ℕ) (k : Core) (s : Sample) where
   kind-keeps (Operands.Jump n) row w o h = refl
   kind-keeps (Operands.Literal v a) row w o h = absurd (h refl)
   kind-keeps (Operands.Two b a) row w o h =
-      two-keeps (eqb (refusalBy row (w .code) b a) 0) (waitingBy row (w .code) s) (refusalBy row (w .code) b a) row w b a o h
+      two-keeps (eqb (refusalBy row (w .code) b) 0) (waitingBy row (w .code) s) (refusalBy row (w .code) b) row w b a o h
 
   taken-keeps : (p : Apart) (row : CodeRow) (o : Outputs) → Keeps (takenBy p row o xs k s)
   taken-keeps (Apart.Word w) row o h = kind-keeps (w .operands) row w o h

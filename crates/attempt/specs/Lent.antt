@@ -46,9 +46,9 @@ twoBy row xs k w b a sample o =
 
 unfoldable pub checkedTwoBy : CodeRow → List ℕ → Core → Fields → ℕ → ℕ → Sample → Outputs → Leaves Outcome
 checkedTwoBy row xs k w b a sample o =
-    pick (eqb (refusalBy row (w .code) b a) 0)
+    pick (eqb (refusalBy row (w .code) b) 0)
     (pick (waitingBy row (w .code) sample) (whenIdle xs k 10) (twoBy row xs k w b a sample o))
-    (whenRefused xs k (refusalBy row (w .code) b a))
+    (whenRefused xs k (refusalBy row (w .code) b))
 
 -- by the kind of operands: only words with two designators are refused or wait
 unfoldable pub checkedKind : Operands → CodeRow → List ℕ → Core → Fields → Sample → Outputs → Leaves Outcome

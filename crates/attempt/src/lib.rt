@@ -271,7 +271,7 @@ fn checked_two(
 ) -> Outcome
     ensures { λ r. ⌜ leaves (now (file .exit)) r ≡ checkedTwoBy row (now (file .entry)) core fields b a sample o ⌝ }
 {
-    let number = checks::refusal(row, fields.code, b, a);
+    let number = checks::refusal(row, fields.code, b);
     if number != 0 {
         outcome_of(core, 0, 0, number)
     } else if checks::waiting(row, fields.code, sample) {

@@ -27,8 +27,8 @@ use Rattle.state.specs.declared.Core.{Core}
 use Rattle.state.specs.declared.Latches.{Latches}
 use Rattle.state.specs.declared.Sample.{Sample}
 use Rattle.attempt_laws.specs.After.{pairIn, raIn, rowsSee, AddressIs, BusIs, requestIs, LatchesAre, outputsAfter, costIs}
-use Rattle.attempt_laws.specs.Fate.{Fate, refused, waited, reset, compute-low, completed, noCode, oddPair, noOption, mustWait}
-use Rattle.attempt_laws.specs.Fate.{within, topIn, bIn, aIn, wordFate, takenWord, fateOf, afterReset, ends, EndsAs}
+use Rattle.attempt_laws.specs.Fate.{Fate, refused, waited, reset, compute-low, completed, noCode, noOption, mustWait}
+use Rattle.attempt_laws.specs.Fate.{within, topIn, bIn, wordFate, takenWord, fateOf, afterReset, ends, EndsAs}
 use Rattle.attempt_laws.proofs.Fate.{attempt-fate}
 use Rattle.attempt_laws.proofs.Next.{past-is, jump-is, conditional-is, address-is, rows-see}
 use Rattle.attempt_laws.proofs.Bus.{bus-left, bus-is, request-none, request-is}
@@ -84,18 +84,16 @@ completed-there ws k s e = go (s .reset) (s .compute) (ltb (k .address .lc) (len
 
 completed-option : (word : ℕ) (s : Sample) → wordFate word s ≡ completed → noOption (topIn word) (bIn word) ≡ false
 unfolding wordFate
-completed-option word s e =
-    go (ltb word 0x40_0000) (noCode (topIn word)) (oddPair (topIn word) (bIn word) (aIn word)) (noOption (topIn word) (bIn word)) e
+completed-option word s e = go (ltb word 0x40_0000) (noCode (topIn word)) (noOption (topIn word) (bIn word)) e
   where
     rest : Fate
     rest = pick (mustWait (topIn word) (s .reply) (s .busy)) waited completed
 
-    go : (h u p q : Bool) → pick h (pick u (refused 6) (pick p (refused 7) (pick q (refused 8) rest))) (refused 2) ≡ completed → q ≡ false
-    go h u p false e = refl
-    go false u p true e = let z : _≡_ {A = ℕ} 0 1 = cc in absurd (omega arith)
-    go true true p true e = let z : _≡_ {A = ℕ} 0 1 = cc in absurd (omega arith)
-    go true false true true e = let z : _≡_ {A = ℕ} 0 1 = cc in absurd (omega arith)
-    go true false false true e = let z : _≡_ {A = ℕ} 0 1 = cc in absurd (omega arith)
+    go : (h u q : Bool) → pick h (pick u (refused 6) (pick q (refused 8) rest)) (refused 2) ≡ completed → q ≡ false
+    go h u false e = refl
+    go false u true e = let z : _≡_ {A = ℕ} 0 1 = cc in absurd (omega arith)
+    go true true true e = let z : _≡_ {A = ℕ} 0 1 = cc in absurd (omega arith)
+    go true false true e = let z : _≡_ {A = ℕ} 0 1 = cc in absurd (omega arith)
 
 small-option : (code b : ℕ) → noOption code b ≡ false → 0xE0 ≤ code → code ≤ 0xE3 → b < 8
 unfolding noOption

@@ -11,22 +11,22 @@ use borrow.Author.Tests.{lt-ltb, ltb-true, eqb-false, ne-eqb}
 use Rattle.choose.specs.Ranged.{pick, ranged}
 use Rattle.choose.specs.Below.{allBelow}
 use Rattle.choose.proofs.Table.{below}
-use Rattle.code.specs.CodeRows.{classOf, listed, pairsOf, waitsOf, optionsOf}
+use Rattle.code.specs.CodeRows.{classOf, listed, waitsOf, optionsOf}
 use Rattle.code.specs.Word.{topOf, codeOf, codeIn, operandsIn, fieldsIn, apartOf}
 use Rattle.code.specs.declared.Apart.{Apart}
 use Rattle.code.specs.declared.Class.{Class}
 use Rattle.code.specs.declared.Fields.{Fields}
 use Rattle.code.proofs.Words.{is-apart}
 use Rattle.code.proofs.Laws.{apart-well-formed}
-use Rattle.checks.specs.Checks.{oddDesignatorOf, designatorRefusalOf, wordRefusalOf, waitingOf}
+use Rattle.checks.specs.Checks.{designatorRefusalOf, wordRefusalOf, waitingOf}
 use Rattle.rows.specs.declared.Outputs.{Outputs}
 use Rattle.rows.specs.declared.Row.{Row}
 use Rattle.state.specs.Range.{InRange, SampleInRange}
 use Rattle.state.specs.declared.Core.{Core}
 use Rattle.state.specs.declared.Sample.{Sample}
 use Rattle.attempt.specs.Attempt.{executedOf, checkedOf, takenOf, fetchedOf, resetOf, attemptedOf, outputsOf, attemptOf}
-use Rattle.attempt_laws.specs.Fate.{Fate, refused, waited, reset, compute-low, completed, noCode, oddPair, noOption, mustWait}
-use Rattle.attempt_laws.specs.Fate.{bIn, aIn, wordFate, takenWord, fateOf, EndsAs, seen}
+use Rattle.attempt_laws.specs.Fate.{Fate, refused, waited, reset, compute-low, completed, noCode, noOption, mustWait}
+use Rattle.attempt_laws.specs.Fate.{bIn, wordFate, takenWord, fateOf, EndsAs, seen}
 use Rattle.choose.proofs.Choice.{pick-both}
 use Rattle.choose.proofs.Tests.{equal-tests}
 use Rattle.attempt_laws.proofs.Range.{executed-request}
@@ -36,27 +36,26 @@ use Rattle.attempt.specs.declared.Outcome.{Outcome}
 -- ---- the engine's tables against 01's lists: two tests over the 256 codes, which the checker computes
 
 -- the number by 01's lists
-abbrev numberByLists : ℕ → ℕ → ℕ → ℕ
-numberByLists code b a = pick (noCode code) 6 (pick (oddPair code b a) 7 (pick (noOption code b) 8 0))
+abbrev numberByLists : ℕ → ℕ → ℕ
+numberByLists code b = pick (noCode code) 6 (pick (noOption code b) 8 0)
 
 -- and by the engine's class and tables
-abbrev numberByTables : Class → ℕ → ℕ → ℕ → ℕ
-numberByTables Class.Unlisted code b a = 6
-numberByTables Class.Jump code b a = 0
-numberByTables Class.Conditional code b a = 0
-numberByTables Class.Literal code b a = 0
-numberByTables Class.Register code b a = designatorRefusalOf code b a
+abbrev numberByTables : Class → ℕ → ℕ → ℕ
+numberByTables Class.Unlisted code b = 6
+numberByTables Class.Jump code b = 0
+numberByTables Class.Conditional code b = 0
+numberByTables Class.Literal code b = 0
+numberByTables Class.Register code b = designatorRefusalOf code b
 
-abbrev agree : ℕ → ℕ → ℕ → Bool
-agree code b a = eqb (numberByTables (classOf code) code b a) (numberByLists code b a)
+abbrev agree : ℕ → ℕ → Bool
+agree code b = eqb (numberByTables (classOf code) code b) (numberByLists code b)
 
--- for every code and designators
-numbers-equal : (code b a : ℕ) → code < 256 → b < 16 → a < 16 → numberByTables (classOf code) code b a ≡ numberByLists code b a
-unfolding classOf ranged designatorRefusalOf oddDesignatorOf pairsOf optionsOf noCode oddPair noOption
-numbers-equal code b a h i j =
-    let codes = below 256 (λ c. allBelow 16 (λ x. allBelow 16 (agree c x))) tt code h in
-    eqb→eq (numberByTables (classOf code) code b a) (numberByLists code b a)
-    (below 16 (agree code b) (below 16 (λ x. allBelow 16 (agree code x)) codes b i) a j)
+-- for every code and b
+numbers-equal : (code b : ℕ) → code < 256 → b < 16 → numberByTables (classOf code) code b ≡ numberByLists code b
+unfolding classOf ranged designatorRefusalOf optionsOf noCode noOption
+numbers-equal code b h i =
+    eqb→eq (numberByTables (classOf code) code b) (numberByLists code b)
+    (below 16 (agree code) (below 256 (λ c. allBelow 16 (agree c)) tt code h) b i)
 
 -- for every code and lines
 waits-equal : (code : ℕ) → code < 256 → (s : Sample) → waitingOf (codeOf code) s ≡ mustWait code (s .reply) (s .busy)
@@ -77,7 +76,7 @@ waits-equal code h s = go (s .reply) (s .busy)
 
 -- the engine's number of a listed word is that of its class
 refusal-in : (c : Class) (word : ℕ) → listed c ≡ true
-    → wordRefusalOf (codeIn c (topOf word)) (operandsIn c word) ≡ numberByTables c (topOf word) (bIn word) (aIn word)
+    → wordRefusalOf (codeIn c (topOf word)) (operandsIn c word) ≡ numberByTables c (topOf word) (bIn word)
 unfolding wordRefusalOf operandsIn
 refusal-in Class.Unlisted word l = absurd (false≢true l)
 refusal-in Class.Jump word l = refl
@@ -85,21 +84,20 @@ refusal-in Class.Conditional word l = refl
 refusal-in Class.Literal word l = refl
 refusal-in Class.Register word l = refl
 
-unlisted-in : (c : Class) (code b a : ℕ) → listed c ≡ false → numberByTables c code b a ≡ 6
-unlisted-in Class.Unlisted code b a l = refl
-unlisted-in Class.Jump code b a l = absurd (false≢true (sym l))
-unlisted-in Class.Conditional code b a l = absurd (false≢true (sym l))
-unlisted-in Class.Literal code b a l = absurd (false≢true (sym l))
-unlisted-in Class.Register code b a l = absurd (false≢true (sym l))
+unlisted-in : (c : Class) (code b : ℕ) → listed c ≡ false → numberByTables c code b ≡ 6
+unlisted-in Class.Unlisted code b l = refl
+unlisted-in Class.Jump code b l = absurd (false≢true (sym l))
+unlisted-in Class.Conditional code b l = absurd (false≢true (sym l))
+unlisted-in Class.Literal code b l = absurd (false≢true (sym l))
+unlisted-in Class.Register code b l = absurd (false≢true (sym l))
 
--- the three refusals as one number
-by-number : (u p q : Bool) (f : Fate)
-    → pick u (refused 6) (pick p (refused 7) (pick q (refused 8) f))
-    ≡ pick (eqb (pick u 6 (pick p 7 (pick q 8 0))) 0) f (refused (pick u 6 (pick p 7 (pick q 8 0))))
-by-number true p q f = refl
-by-number false true q f = refl
-by-number false false true f = refl
-by-number false false false f = refl
+-- the two refusals as one number
+by-number : (u q : Bool) (f : Fate)
+    → pick u (refused 6) (pick q (refused 8) f)
+    ≡ pick (eqb (pick u 6 (pick q 8 0)) 0) f (refused (pick u 6 (pick q 8 0)))
+by-number true q f = refl
+by-number false true f = refl
+by-number false false f = refl
 
 -- ---- each part of an attempt
 
@@ -121,7 +119,7 @@ module _ (xs : List ℕ) (k : Core) (s : Sample) (o : Outputs) where
 
   -- a word below 2^22
   word-ends : (word : ℕ) → word < 0x40_0000 → (l : Bool) → listed (classOf (topOf word)) ≡ l
-      → (n : ℕ) → numberByTables (classOf (topOf word)) (topOf word) (bIn word) (aIn word) ≡ n
+      → (n : ℕ) → numberByTables (classOf (topOf word)) (topOf word) (bIn word) ≡ n
       → EndsAs word xs k s o (takenOf (pick l (Apart.Word (fieldsIn (classOf (topOf word)) word)) Apart.Unlisted) o xs k s)
       (pick (eqb n 0) (pick (mustWait (topOf word) (s .reply) (s .busy)) waited completed) (refused n))
   unfolding fieldsIn codeOf
@@ -129,14 +127,14 @@ module _ (xs : List ℕ) (k : Core) (s : Sample) (o : Outputs) where
       checked-ends word n _ (fieldsIn (classOf (topOf word)) word) (is-apart word h l) (refusal-in (classOf (topOf word)) word l ∙ e)
       (waits-equal (topOf word) (omega arith) s)
   word-ends word h false l n e =
-      rw (sym e ∙ unlisted-in (classOf (topOf word)) (topOf word) (bIn word) (aIn word) l) ((λ z. omega arith), refl)
+      rw (sym e ∙ unlisted-in (classOf (topOf word)) (topOf word) (bIn word) l) ((λ z. omega arith), refl)
 
   taken-ends : (word : ℕ) → EndsAs word xs k s o (takenOf (apartOf word) o xs k s) (wordFate word s)
   unfolding apartOf wordFate
   taken-ends word =
-      rw (by-number (noCode (topOf word)) (oddPair (topOf word) (bIn word) (aIn word)) (noOption (topOf word) (bIn word)))
+      rw (by-number (noCode (topOf word)) (noOption (topOf word) (bIn word)))
       (pick-known (λ (x : Apart) (f : Fate). EndsAs word xs k s o (takenOf x o xs k s) f) (ltb word 0x40_0000) _ _ _ _
-      (λ h. word-ends word (ltb-true word 0x40_0000 h) _ refl _ (numbers-equal (topOf word) (bIn word) (aIn word) (omega arith) (omega arith) (omega arith)))
+      (λ h. word-ends word (ltb-true word 0x40_0000 h) _ refl _ (numbers-equal (topOf word) (bIn word) (omega arith) (omega arith)))
       (λ h. ((λ z. omega arith), refl)))
 
   attempted-ends : (ws : List ℕ) → EndsAs (takenWord ws k) xs k s o (attemptedOf ws o xs k s) (fateOf ws k s)

@@ -12,3 +12,4 @@ pub mod Next
 pub mod Bus
 pub mod Latches
 pub mod After
+pub mod NoSeven

@@ -1,13 +1,14 @@
--- The starred cases of 01, "Checked by hand", hold: one table under one statement about attempts, which the checker computes.
+-- The starred cases of 01, "Checked by hand", and the crosswise ones of 02's L6 hold: tables under one statement about attempts, which the checker computes.
 -- Assumes nothing.
+use mathlib.Core.Bool.{_&&_}
 use lib.Dec.{T}
 use Rattle.alu.specs.Cycle.{addOf, subtractOf, keptOf, onesOf, leftOf, rightOf, cycleOf}
 use Rattle.alu.specs.Marks.{afterOf, afterByteOf, afterWordOf}
 use Rattle.attempt.specs.Attempt.{executedOf, checkedOf, modifiedOf, fetchedOf, attemptedOf, outputsOf, attemptOf}
 use Rattle.attempt.specs.Effect.{literalEffect, registerEffect, effectOf}
-use Rattle.checks.specs.Checks.{oddDesignatorOf, designatorRefusalOf, wordRefusalOf, waitingOf}
+use Rattle.checks.specs.Checks.{designatorRefusalOf, wordRefusalOf, waitingOf}
 use Rattle.choose.specs.Ranged.{ranged}
-use Rattle.code.specs.CodeRows.{classOf, cyclesOf, pairsOf, waitsOf, optionsOf}
+use Rattle.code.specs.CodeRows.{classOf, cyclesOf, waitsOf, optionsOf}
 use Rattle.code.specs.Word.{operandsIn, fieldsIn, apartOf}
 use Rattle.control.specs.Bus.{busAfter, requestOf}
 use Rattle.control.specs.Latches.{latchesAfter}
@@ -18,12 +19,12 @@ use Rattle.numbers.specs.Numbers.{wordAt}
 use Rattle.plan.specs.Plan.{planOf, conditionMet, literalPlanOf}
 use Rattle.rows.specs.Scan.{scanFrom}
 use Rattle.state.specs.File.{slotOf, highOf, registerOf, writtenOf}
-use Rattle.attempt_laws.specs.Starred.{caseHolds, allHold, cases}
+use Rattle.attempt_laws.specs.Starred.{caseHolds, allHold, cases, crosswise}
 
-pub starred : T (allHold cases)
-unfolding allHold cases caseHolds
+pub starred : T (allHold cases && allHold crosswise)
+unfolding allHold cases crosswise caseHolds
     attemptOf attemptedOf outputsOf scanFrom fetchedOf modifiedOf wordAt apartOf fieldsIn operandsIn classOf checkedOf
-    wordRefusalOf designatorRefusalOf oddDesignatorOf pairsOf optionsOf waitingOf waitsOf cyclesOf
+    wordRefusalOf designatorRefusalOf optionsOf waitingOf waitsOf cyclesOf
     executedOf effectOf literalEffect registerEffect busAfter requestOf latchesAfter addressAfter nextOf onwardOf rrOf tsrOf
     literalOf literalPlanOf registersOf conditionedOf conditionMet operationOf planOf oneCycleOf twoCyclesOf stepOf operandOf
     registerOf writtenOf slotOf highOf cycleOf addOf subtractOf keptOf onesOf leftOf rightOf afterOf afterByteOf afterWordOf ranged

@@ -56,12 +56,6 @@ twoCycle code = oneOf (code / 2 * 2) evenWords
 abbrev pub inputWord : ℕ → Bool
 inputWord code = within 0xE2 0xE3 code || within 0xE6 0xE7 code
 
--- 7, "tests a and b for the two-cycle codes 82-DF, and a alone for IW and ISW"
-unfoldable pub oddPair : ℕ → ℕ → ℕ → Bool
-oddPair code b a =
-    (twoCycle code && (odd a || odd b)) ||
-    (inputWord code && odd a)
-
 -- 8, "IB and IW take b 0-7, ISB 0-3": IB and IW are E0-E3, ISB E4 and E5
 unfoldable pub noOption : ℕ → ℕ → Bool
 noOption code b =
@@ -89,15 +83,15 @@ bIn word = word / 0x10 % 0x10
 abbrev pub aIn : ℕ → ℕ
 aIn word = word % 0x10
 
--- "at each attempt 5, 6, 7, 8"; "Then refusals, then waiting, then execution". A word of 2^22 or more is 2, which a run refuses before its first attempt
+-- "at each attempt 5, 6, 7, 8", and 02, L6: "7 no longer occurs"; "Then refusals, then waiting, then execution". A word of 2^22 or more is 2, which a
+-- run refuses before its first attempt
 unfoldable pub wordFate : ℕ → Sample → Fate
 wordFate word s =
     pick (ltb word 0x40_0000)
     (pick (noCode (topIn word)) (refused 6)
-    (pick (oddPair (topIn word) (bIn word) (aIn word)) (refused 7)
     (pick (noOption (topIn word) (bIn word)) (refused 8)
     (pick (mustWait (topIn word) (s .reply) (s .busy)) waited
-    completed))))
+    completed)))
     (refused 2)
 
 -- "the word at LC is taken and a waiting modification is ORed into its low 16 bits"

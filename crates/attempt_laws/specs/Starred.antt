@@ -1,4 +1,4 @@
--- The starred cases of 01, "Checked by hand", as one table: a word, run as an attempt, and what each case says of it.
+-- The starred cases of 01, "Checked by hand", as one table, and the crosswise pairs of 02, L6, as another: a word, run as an attempt, and what each says of it.
 use Prim.Native.Nat.{ℕ, _+_, _/_, _%_}
 use mathlib.Core.Bool.{Bool, true, false, Bool·beq, _&&_}
 use mathlib.Core.List.{List, [], _∷_}
@@ -15,7 +15,7 @@ use Rattle.state.specs.declared.Sample.{Sample}
 -- ---- a case
 
 pub data Flag : Type 0 where
-  isN isV isC isC4 isC8 : Flag
+  isN isZ isV isC isC4 isC8 : Flag
 
 abbrev pub Held : Type 0
 Held = List (Register × ℕ)
@@ -52,6 +52,7 @@ computing = record { dal = 0; reply = false; busy = false; compute = true; reset
 
 abbrev pub flagOf : Flag → Flags → Bool
 flagOf isN f = f .n
+flagOf isZ f = f .z
 flagOf isV f = f .v
 flagOf isC f = f .c
 flagOf isC4 f = f .c4
@@ -103,4 +104,30 @@ cases =
     case 0 false 0x8D42 1 ((R 4, 0x40) ∷ []) ((R 2, 0x80) ∷ (R 4, 0x40) ∷ []) ((isV, true) ∷ []) ∷
     case 6 false 0x65A0 1 [] ((R 0xC, 0x5A) ∷ []) [] ∷
     case 5 false 0x65A1 1 [] ((G 0xB, 0x5A) ∷ []) [] ∷
+    []
+
+-- ---- 02, L6, as a table of its own: MW, AW, SW, SLW and SRW on pairs that overlap crosswise, "each reading what the one before it wrote". With a 2 and b 3
+-- Ra is R2 and Rb R3, with a 3 and b 2 the other way round; with G 6 designators 0 and 1 are RC and RD, with G 7 RE and RF. "MW of 3 to 2 leaves both with
+-- what R3 held"; "word A232 is executed"; "Flags are those of the two results". And one of pairs apart, 8331: of 1 the high byte "is 0, register 2G"
+unfoldable pub crosswise : List Case
+crosswise =
+    case 0 false 0x8332 2 ((R 2, 0x11) ∷ (R 3, 0x22) ∷ []) ((R 2, 0x22) ∷ (R 3, 0x22) ∷ []) ((isN, false) ∷ (isV, false) ∷ []) ∷
+    case 0 false 0x8323 2 ((R 2, 0x91) ∷ (R 3, 0x22) ∷ []) ((R 2, 0x91) ∷ (R 3, 0x91) ∷ []) ((isN, true) ∷ (isV, false) ∷ []) ∷
+    case 0 false 0x8332 2 ((R 2, 0x11) ∷ []) [] ((isZ, true) ∷ (isN, false) ∷ []) ∷
+    case 0 false 0x8331 2 ((R 2, 0x34) ∷ (R 3, 0x12) ∷ []) ((R 2, 0x34) ∷ (R 3, 0x12) ∷ (G 0, 0x34) ∷ (G 1, 0x12) ∷ []) [] ∷
+    case 6 false 0x830D 2 ((R 0xC, 0x77) ∷ []) ((R 0xC, 0x77) ∷ (R 0xD, 0x77) ∷ []) [] ∷
+    case 0 false 0xA232 2 ((R 2, 0x34) ∷ (R 3, 0x12) ∷ []) ((R 2, 0x46) ∷ (R 3, 0x58) ∷ []) [] ∷
+    case 0 false 0xA332 2 ((R 2, 0xF0) ∷ (R 3, 0x20) ∷ []) ((R 2, 0x10) ∷ (R 3, 0x31) ∷ []) ((isC8, false) ∷ (isN, false) ∷ (isC, false) ∷ []) ∷
+    case 0 false 0xA332 2 ((R 2, 0xFF) ∷ (R 3, 0x01) ∷ []) ((R 3, 0x02) ∷ []) ((isZ, false) ∷ (isC, false) ∷ []) ∷
+    case 0 false 0xA323 2 ((R 2, 0x90) ∷ (R 3, 0x80) ∷ []) ((R 2, 0xA1) ∷ (R 3, 0x10) ∷ []) ((isN, true) ∷ (isC, false) ∷ []) ∷
+    case 6 false 0xA3D0 2 ((R 0xC, 0xF0) ∷ (R 0xD, 0x20) ∷ []) ((R 0xC, 0x10) ∷ (R 0xD, 0x31) ∷ []) ((isC, false) ∷ []) ∷
+    case 0 false 0xB332 2 ((R 2, 0x10) ∷ (R 3, 0x20) ∷ []) ((R 2, 0xF0) ∷ (R 3, 0x2F) ∷ []) ((isC8, false) ∷ (isV, false) ∷ (isC, true) ∷ []) ∷
+    case 0 false 0xB323 2 ((R 2, 0x30) ∷ (R 3, 0x50) ∷ []) ((R 2, 0x10) ∷ (R 3, 0x20) ∷ []) ((isC8, true) ∷ (isC, false) ∷ []) ∷
+    case 7 false 0xB3E1 2 ((R 0xE, 0x30) ∷ (R 0xF, 0x50) ∷ []) ((R 0xE, 0x10) ∷ (R 0xF, 0x20) ∷ []) ((isC8, true) ∷ (isC, false) ∷ []) ∷
+    case 0 false 0x8F32 2 ((R 2, 0x55) ∷ (R 3, 0xC1) ∷ []) ((R 2, 0x82) ∷ (R 3, 0x05) ∷ []) ((isC4, false) ∷ (isV, true) ∷ (isC, true) ∷ []) ∷
+    case 0 false 0x8F23 2 ((R 2, 0x40) ∷ (R 3, 0x07) ∷ []) ((R 3, 0x80) ∷ []) ((isV, true) ∷ (isC, true) ∷ []) ∷
+    case 7 false 0x8F0F 2 ((R 0xE, 0x40) ∷ (R 0xF, 0x07) ∷ []) ((R 0xF, 0x80) ∷ []) ((isV, true) ∷ (isC, true) ∷ []) ∷
+    case 0 false 0xDF32 2 ((R 2, 0x03) ∷ (R 3, 0xFF) ∷ []) ((R 2, 0x80) ∷ (R 3, 0x01) ∷ []) ((isN, true) ∷ (isC, true) ∷ []) ∷
+    case 0 false 0xDF23 2 ((R 2, 0xFF) ∷ (R 3, 0x06) ∷ []) ((R 2, 0x03) ∷ (R 3, 0x01) ∷ []) ((isN, false) ∷ (isC, true) ∷ []) ∷
+    case 7 false 0xDF1E 2 ((R 0xE, 0x03) ∷ (R 0xF, 0xFF) ∷ []) ((R 0xE, 0x80) ∷ (R 0xF, 0x01) ∷ []) ((isN, true) ∷ (isC, true) ∷ []) ∷
     []

@@ -8,7 +8,7 @@ use lib.ListN.{getD}
 use Rattle.choose.specs.Ranged.{pick, ranged}
 use Rattle.choose.specs.Below.{allEqual}
 use Rattle.choose.proofs.Table.{all-equal, at}
-use Rattle.code.specs.CodeRows.{classNumber, listed, blank, rowOf, classOf, cyclesOf, pairsOf, waitsOf, optionsOf}
+use Rattle.code.specs.CodeRows.{classNumber, listed, blank, rowOf, classOf, cyclesOf, waitsOf, optionsOf}
 use Rattle.code.specs.CodeRows.{statusFlagsOf, conditionFlagsOf, storesOf}
 use Rattle.code.specs.Entries.{classAt, rowOfEntry, entries}
 use Rattle.code.specs.Word.{codeOf}
@@ -20,11 +20,10 @@ abbrev digits : CodeRow → ℕ → List (ℕ × ℕ)
 digits r n =
     (n % 0x10, classNumber (r .class)) ∷
     (n / 0x10 % 0x10, r .cycles) ∷
-    (n / 0x100 % 0x10, r .pairs) ∷
-    (n / 0x1000 % 0x10, r .waits) ∷
-    (n / 0x1_0000 % 0x10, r .options) ∷
-    (n / 0x10_0000 % 0x100, r .flags) ∷
-    (n / 0x1000_0000 % 0x10, r .stores) ∷
+    (n / 0x100 % 0x10, r .waits) ∷
+    (n / 0x1000 % 0x10, r .options) ∷
+    (n / 0x1_0000 % 0x100, r .flags) ∷
+    (n / 0x100_0000 % 0x10, r .stores) ∷
     []
 
 pub numbered : (k : Class) → classAt (classNumber k) ≡ k
@@ -39,11 +38,11 @@ by-digits : (r : CodeRow) (n : ℕ) → T (allEqual (digits r n)) → rowOfEntry
 unfolding rowOfEntry
 by-digits r n t =
     let e = all-equal (digits r n) t in
-    rw (e .0, numbered, e .1 .0, e .1 .1 .0, e .1 .1 .1 .0, e .1 .1 .1 .1 .0, e .1 .1 .1 .1 .1 .0, e .1 .1 .1 .1 .1 .1 .0)
+    rw (e .0, numbered, e .1 .0, e .1 .1 .0, e .1 .1 .1 .0, e .1 .1 .1 .1 .0, e .1 .1 .1 .1 .1 .0)
 
 -- what a reader of the table gets
 pub row-at : (top : ℕ) → top < 0x100 → rowOfEntry (getD entries top 0) ≡ rowOf top
-unfolding entries rowOf classOf ranged cyclesOf pairsOf waitsOf optionsOf statusFlagsOf conditionFlagsOf storesOf
+unfolding entries rowOf classOf ranged cyclesOf waitsOf optionsOf statusFlagsOf conditionFlagsOf storesOf
 row-at top h = by-digits (rowOf top) (getD entries top 0) (at (λ k n. allEqual (digits (rowOf k) n)) entries tt top h)
 
 -- an unlisted row has that class too
@@ -64,7 +63,6 @@ pub listed-row : (top : ℕ) → listed (classOf top) ≡ true
     ≡ record {
       class = classOf top;
       cycles = cyclesOf top;
-      pairs = pairsOf top;
       waits = waitsOf top;
       options = optionsOf top;
       flags = conditionFlagsOf top + statusFlagsOf top;
@@ -75,7 +73,7 @@ listed-row top e = rw e
 
 -- all top bytes of an instruction have the row of its first
 pub row-of-code : (top : ℕ) → top < 0x100 → rowOf (codeOf top) ≡ rowOf top
-unfolding entries codeOf rowOf classOf ranged cyclesOf pairsOf waitsOf optionsOf statusFlagsOf conditionFlagsOf storesOf
+unfolding entries codeOf rowOf classOf ranged cyclesOf waitsOf optionsOf statusFlagsOf conditionFlagsOf storesOf
 row-of-code top h =
     sym (by-digits (rowOf (codeOf top)) (getD entries top 0) (at (λ k n. allEqual (digits (rowOf (codeOf k)) n)) entries tt top h))
     ∙ row-at top h

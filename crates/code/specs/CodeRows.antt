@@ -56,10 +56,6 @@ cyclesOf top =
     [])
     1
 
--- 3: a and b have to be even, "for the two-cycle codes 82-DF"; 1: "a alone for IW and ISW"
-unfoldable pub pairsOf : ℕ → ℕ
-pairsOf top = ranged top ((0x80, 0) ∷ (0xE0, 3 * wordBit top) ∷ (0xE8, wordBit top) ∷ []) 0
-
 -- 1: "R, W, RA, WA and the F0-F7 codes wait if REPLY or BUSY is high"; 2: "IB, IW, OB, OW wait if REPLY is low"
 unfoldable pub waitsOf : ℕ → ℕ
 waitsOf top =
@@ -109,7 +105,7 @@ conditionFlagsOf top =
     0
 
 -- the registers that are written. 0: none, "Compare and test write no register", nor do jumps, lines, interrupts and loads of G, TR, TSR or flags;
--- 1: Ra; 2: "A pair is Ra (low) and Ra+1"; 3: Ra and Rb, "F0-F7: Ra gains 1 or 2; the word codes then add the carry to Rb"
+-- 1: Ra; 2: the pair of Ra and its high byte; 3: Ra and Rb, "F0-F7: Ra gains 1 or 2; the word codes then add the carry to Rb"
 unfoldable pub storesOf : ℕ → ℕ
 storesOf top =
     ranged top
@@ -135,7 +131,7 @@ storesOf top =
 
 -- the row of an unlisted top byte
 abbrev pub blank : CodeRow
-blank = record { class = Class.Unlisted; cycles = 0; pairs = 0; waits = 0; options = 0; flags = 0; stores = 0 }
+blank = record { class = Class.Unlisted; cycles = 0; waits = 0; options = 0; flags = 0; stores = 0 }
 
 unfoldable pub rowOf : ℕ → CodeRow
 rowOf top =
@@ -143,7 +139,6 @@ rowOf top =
     (record {
       class = classOf top;
       cycles = cyclesOf top;
-      pairs = pairsOf top;
       waits = waitsOf top;
       options = optionsOf top;
       flags = conditionFlagsOf top + statusFlagsOf top;

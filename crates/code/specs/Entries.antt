@@ -14,8 +14,7 @@ classAt n = ranged n ((1, Class.Unlisted) ∷ (2, Class.Jump) ∷ (3, Class.Cond
 -- a row as one number, a hexadecimal digit for each field and two for the flags
 abbrev pub entryOf : CodeRow → ℕ
 entryOf r =
-    classNumber (r .class) + 0x10 * r .cycles + 0x100 * r .pairs + 0x1000 * r .waits + 0x1_0000 * r .options + 0x10_0000 * r .flags +
-    0x1000_0000 * r .stores
+    classNumber (r .class) + 0x10 * r .cycles + 0x100 * r .waits + 0x1000 * r .options + 0x1_0000 * r .flags + 0x100_0000 * r .stores
 
 -- the rows of all 256 top bytes as numbers
 unfoldable pub entries : List ℕ
@@ -27,9 +26,8 @@ rowOfEntry n =
     record {
       class = classAt (n % 0x10);
       cycles = n / 0x10 % 0x10;
-      pairs = n / 0x100 % 0x10;
-      waits = n / 0x1000 % 0x10;
-      options = n / 0x1_0000 % 0x10;
-      flags = n / 0x10_0000 % 0x100;
-      stores = n / 0x1000_0000 % 0x10;
+      waits = n / 0x100 % 0x10;
+      options = n / 0x1000 % 0x10;
+      flags = n / 0x1_0000 % 0x100;
+      stores = n / 0x100_0000 % 0x10;
     }

@@ -22,15 +22,13 @@ pub enum Class {
 pub struct CodeRow {
     pub class: Class,
     pub cycles: u8,
-    // 1: a has to be even; 3: a and b have to be.
-    pub pairs: u8,
     // 1: waits while REPLY or BUSY is high; 2: waits while REPLY is low.
     pub waits: u8,
     // The highest b that is listed.
     pub options: u8,
     // The flags that it may write, as bits of the flag byte N Z V C NB ZB C4 C8.
     pub flags: u8,
-    // The registers that it writes. 0: none; 1: Ra; 2: Ra and Ra+1; 3: Ra and Rb.
+    // The registers that it writes. 0: none; 1: Ra; 2: Ra's pair; 3: Ra and Rb.
     pub stores: u8,
 }
 
@@ -112,11 +110,10 @@ pub fn row_in(rows: &[u32; 256], top: u8) -> CodeRow
     CodeRow {
         class,
         cycles: (n / 0x10 % 0x10) as u8,
-        pairs: (n / 0x100 % 0x10) as u8,
-        waits: (n / 0x1000 % 0x10) as u8,
-        options: (n / 0x1_0000 % 0x10) as u8,
-        flags: (n / 0x10_0000 % 0x100) as u8,
-        stores: (n / 0x1000_0000 % 0x10) as u8,
+        waits: (n / 0x100 % 0x10) as u8,
+        options: (n / 0x1000 % 0x10) as u8,
+        flags: (n / 0x1_0000 % 0x100) as u8,
+        stores: (n / 0x100_0000 % 0x10) as u8,
     }
 }
 

@@ -95,7 +95,7 @@ fn stores(registers: u8) {
     match registers {
         0 => say(b"none"),
         1 => say(b"Ra"),
-        2 => say(b"Ra and Ra+1"),
+        2 => say(b"Ra's pair"),
         _ => say(b"Ra and Rb"),
     }
 }
@@ -108,16 +108,10 @@ fn waits(kind: u8) {
     }
 }
 
-fn refusals(pairs: u8, options: u8) {
-    if (pairs == 0) & (options == 15) {
+fn refusals(options: u8) {
+    if options == 15 {
         say(b"none ");
-    }
-    match pairs {
-        0 => {}
-        1 => say(b"7: a odd. "),
-        _ => say(b"7: a or b odd. "),
-    }
-    if options < 15 {
+    } else {
         say(b"8: b over ");
         number(options);
         say(b". ");
@@ -135,7 +129,7 @@ fn facts(row: CodeRow) {
     say(b" | ");
     waits(row.waits);
     say(b" | ");
-    refusals(row.pairs, row.options);
+    refusals(row.options);
 }
 
 fn key(top: u8) {
@@ -188,7 +182,7 @@ fn line(top: u8, listed: bool, vectors: u8) {
         Apart::Word(f) => {
             if listed & (f.code == top) {
                 let row = code::row_of(top);
-                requirement(top, row, checks::refusal(row, top, 0, 0), vectors);
+                requirement(top, row, checks::refusal(row, top, 0), vectors);
             }
         }
         Apart::OutOfRange => {}
@@ -226,9 +220,15 @@ fn columns() {
     say(
         b"- **Registers** that it may write, by a and b of the word; a failed condition writes none. The others of the 26 stay as they were.\n",
     );
+    say(
+        b"  Ra's pair is Ra, its low byte, and the register whose designator is a with its lowest bit inverted, its high byte.\n",
+    );
     say(b"- **Waits** while these lines are so.\n");
     say(
         b"- **Refusals** that can come, with their cause. An attempt that fetches is refused with 5 where LC has no word.\n",
+    );
+    say(
+        b"  7 is no longer given: it was the answer to an odd designator where a pair is needed, which is now executed.\n",
     );
     say(b"- **Vectors** that check it: how many, and the file.\n");
 }

@@ -15,7 +15,7 @@ use Rattle.choose.proofs.Choice.{pick-all}
 use Rattle.numbers.specs.Numbers.{wordAt}
 use Rattle.attempt_laws.proofs.Range.{attempt-in-range}
 use Rattle.attempt_laws.proofs.Refusal.{executes}
-use Rattle.checks.specs.Checks.{oddDesignatorOf, designatorRefusalOf, wordRefusalOf, waitingOf}
+use Rattle.checks.specs.Checks.{designatorRefusalOf, wordRefusalOf, waitingOf}
 use Rattle.choose.specs.Ranged.{pick}
 use Rattle.code.specs.CodeRows.{classOf, listed, optionsOf}
 use Rattle.code.specs.Word.{topOf, apartOf}
@@ -66,18 +66,17 @@ module _ (ws : List ℕ) (rs : List Row) where
 
 -- ---- the numbers of an attempt
 
-two-number : (code b a : ℕ) → Number (designatorRefusalOf code b a)
+two-number : (code b : ℕ) → Number (designatorRefusalOf code b)
 unfolding designatorRefusalOf
-two-number code b a =
-    pick-all Number (eqb code 0xAC) _ _ (λ z. (omega arith, omega arith))
-    (pick-all Number (oddDesignatorOf code b a) _ _ (λ z. (omega arith, omega arith))
-    (pick-all Number (ltb (optionsOf code) b) _ _ (λ z. (omega arith, omega arith)) (λ z. absurd (z refl))))
+two-number code b =
+    pick-all Number (eqb code 0xAC) _ _ (λ z. (omega arith, omega arith, λ e. omega arith))
+    (pick-all Number (ltb (optionsOf code) b) _ _ (λ z. (omega arith, omega arith, λ e. omega arith)) (λ z. absurd (z refl)))
 
 check-number : (code : ℕ) (o : Operands) → Number (wordRefusalOf code o)
 unfolding wordRefusalOf
 check-number code (Operands.Jump n) z = absurd (z refl)
 check-number code (Operands.Literal v r) z = absurd (z refl)
-check-number code (Operands.Two b a) z = two-number code b a z
+check-number code (Operands.Two b a) z = two-number code b z
 
 -- a modification of 16 bits leaves a word below 2^22
 modified-below : (w : ℕ) (l : Latches) → w < 0x40_0000 → l .modification < 65536 → modifiedOf w l < 0x40_0000
@@ -102,7 +101,8 @@ module _ (xs : List ℕ) (k : Core) (s : Sample) (o : Outputs) where
   unfolding apartOf
   taken-number w h =
       rw (lt-ltb w 0x40_0000 h)
-      (pick-all (λ (a : Apart). Numbered (takenOf a o xs k s)) (listed (classOf (topOf w))) _ _ (checked-number _) (λ z. (omega arith, omega arith)))
+      (pick-all (λ (a : Apart). Numbered (takenOf a o xs k s)) (listed (classOf (topOf w))) _ _ (checked-number _)
+      (λ z. (omega arith, omega arith, λ e. omega arith)))
 
   fetched-number : (ws : List ℕ) → WordsInRange ws → k .latches .modification < 65536 → Numbered (fetchedOf ws o xs k s)
   unfolding fetchedOf
@@ -114,7 +114,7 @@ module _ (xs : List ℕ) (k : Core) (s : Sample) (o : Outputs) where
       go : (t : Bool) → ltb lc (length ws / 4) ≡ t
           → Numbered (pick t (takenOf (apartOf (modifiedOf (wordAt ws lc) (k .latches))) o xs k s) (whenRefused xs k 5))
       go true q = taken-number _ (modified-below (wordAt ws lc) (k .latches) (h lc (ltb-true _ _ q)) m)
-      go false q = λ z. (omega arith, omega arith)
+      go false q = λ z. (omega arith, omega arith, λ e. omega arith)
 
   attempted-number : (ws : List ℕ) → WordsInRange ws → k .latches .modification < 65536 → Numbered (attemptedOf ws o xs k s)
   unfolding attemptedOf
@@ -122,13 +122,13 @@ module _ (xs : List ℕ) (k : Core) (s : Sample) (o : Outputs) where
       pick-all Numbered (s .reset) _ _ (λ z. absurd (z refl))
       (pick-all Numbered (s .compute) _ _ (fetched-number ws h m) (λ z. absurd (z refl)))
 
--- "then at each attempt 5, 6, 7, 8": an attempt is refused with no other number
+-- "then at each attempt 5, 6, 7, 8", without 7: an attempt is refused with no other number
 pub attempt-number : (ws : List ℕ) (rs : List Row) (xs : List ℕ) (k : Core) (s : Sample)
     → WordsInRange ws → k .latches .modification < 65536 → Number (attemptOf ws rs xs k s .back .refusal)
 unfolding attemptOf
 attempt-number ws rs xs k s = attempted-number xs k s (outputsOf ws rs k s) ws
 
--- the same of a run: its answer is 0, 5, 6, 7 or 8
+-- the same of a run: its answer is 0, 5, 6 or 8
 pub run-number : (ws : List ℕ) (rs : List Row) → WordsInRange ws → rowsInRange rs ≡ true → (ss : List Sample) → SamplesInRange ss
     → (w : World) → InRange (w .file) (w .core) → w .answer ≡ 0 → Number (runFrom ws rs ss w .answer)
 unfolding runFrom steppedOf stoppedOf

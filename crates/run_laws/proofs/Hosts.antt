@@ -23,7 +23,7 @@ module _ (deck requests state : List ℕ) (h : deckRefusalOf deck (length reques
   words-in-range : WordsInRange (wordsPart deck)
   words-in-range = word-below (wordsPart deck) (accepted deck (length requests) (length state) h .words)
 
-  -- "at each attempt 5, 6, 7, 8": an accepted deck's answer is 0 or one of these
+  -- "at each attempt 5, 6, 7, 8", without 7: an accepted deck's answer is 0 or one of these
   pub host-number : Bytes deck → Number (hostOf deck requests state .report .answer)
   unfolding deckRun
   host-number b =

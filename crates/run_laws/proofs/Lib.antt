@@ -8,3 +8,4 @@ pub mod Returned
 pub mod Attempts
 pub mod Slip
 pub mod Outputs
+pub mod NoSeven

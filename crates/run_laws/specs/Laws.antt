@@ -20,9 +20,9 @@ SamplesInRange (s ∷ ss) = SampleInRange s × SamplesInRange ss
 abbrev pub WordsInRange : List ℕ → Type 0
 WordsInRange ws = (i : ℕ) → i < length ws / 4 → wordAt ws i < 0x40_0000
 
--- 0, or one of the numbers that an attempt is refused with
+-- 0, or one of the numbers that an attempt is refused with: "5, 6, 7, 8", of which 02, L6: "7 no longer occurs"
 abbrev pub Number : ℕ → Type 0
-Number n = (n ≡ 0 → ⊥) → (5 ≤ n) × (n ≤ 8)
+Number n = (n ≡ 0 → ⊥) → (5 ≤ n) × (n ≤ 8) × (n ≡ 7 → ⊥)
 
 -- v, after a run of n samples from w, has used them all where its answer is 0, and fewer where it is another
 pub record Counted (n : ℕ) (w v : World) : Type 0 where

@@ -1,15 +1,17 @@
 -- What 01's lists say of the codes of left shifts and their adds: tests that antt computes over the codes; and so both are completed. Assumes nothing.
 use Prim.Native.Nat.{ℕ, _+_, _%_, _<_, _≤_}
-use mathlib.Core.Path.{_≡_, refl, sym}
-use mathlib.Core.Bool.{Bool, true, false, not, _&&_, _||_}
+use mathlib.Core.Path.{_≡_, refl}
+use mathlib.Core.Bool.{Bool, true, false, not, _||_}
 use mathlib.Core.List.{List, [], _∷_}
 use native.Mathlib.Omega.{arith}
 use lib.Dec.{T, leb, ltb}
-use borrow.Author.Tests.{lt-ltb, ltb-true, leb-true, ne-eqb}
-use Rattle.attempt_laws.specs.Fate.{within, odd, noCode, twoCycle, inputWord, oddPair, noOption, mustWait, wordFate, takenWord, fateOf, completed}
+use borrow.Author.Tests.{lt-ltb, ltb-true, leb-true}
+use Rattle.attempt_laws.specs.Fate.{within, noCode, noOption, mustWait, wordFate, takenWord, fateOf, completed}
 use Rattle.choose.proofs.Table.{SameTests, all-same-tests, below}
 use Rattle.choose.specs.Below.{allBelow, allSame}
 use Rattle.choose.specs.Ranged.{pick}
+use Rattle.state.proofs.Pairs.{inverted-of-even}
+use Rattle.state.specs.Pairs.{inverted}
 use Rattle.state.specs.declared.Core.{Core}
 use Rattle.state.specs.declared.Sample.{Sample}
 use Rattle.table_laws.proofs.Lines.{within-is, under}
@@ -20,11 +22,11 @@ use Rattle.shifts.specs.Shifts.{isShift, addFor, Takes, registersFrom, m
 
 -- ---- the codes
 
--- from 80 to DF, listed, without condition, a word operation by its two cycles alone; writes the pair, or Ra
+-- from 80 to DF, listed, without condition; writes the pair, or Ra
 abbrev facts : ℕ → List (Bool × Bool)
 facts x =
     (leb 0x80 x, true) ∷ (ltb x 0xE0, true) ∷ (noCode x, false) ∷ (within 0x84 0x87 x || within 0xA4 0xA7 x, false) ∷ (within 0xAE 0xAF x, false) ∷
-    (twoCycle x, wordCode x) ∷ (inputWord x, false) ∷ (storesWord x, wordCode x) ∷ (storesBoth x, false) ∷ (storesRa x, not (wordCode x)) ∷
+    (storesWord x, wordCode x) ∷ (storesBoth x, false) ∷ (storesRa x, not (wordCode x)) ∷
     []
 
 pub record Plain (x : ℕ) : Type 0 where
@@ -33,22 +35,18 @@ pub record Plain (x : ℕ) : Type 0 where
   pub listed : noCode x ≡ false
   pub no-c : within 0x84 0x87 x || within 0xA4 0xA7 x ≡ false
   pub no-ics : within 0xAE 0xAF x ≡ false
-  pub two : twoCycle x ≡ wordCode x
-  pub no-input : inputWord x ≡ false
   pub pair : storesWord x ≡ wordCode x
   pub no-rb : storesBoth x ≡ false
   pub ra : storesRa x ≡ not (wordCode x)
 
 plain : (x : ℕ) → SameTests (facts x) → Plain x
-plain x (f, (h, (l, (c, (i, (t, (n, (p, (b, (r, u)))))))))) =
+plain x (f, (h, (l, (c, (i, (p, (b, (r, u)))))))) =
     record {
       from = leb-true 0x80 x f;
       till = ltb-true x 0xE0 h;
       listed = l;
       no-c = c;
       no-ics = i;
-      two = t;
-      no-input = n;
       pair = p;
       no-rb = b;
       ra = r;
@@ -95,18 +93,7 @@ move-plain false = plain (moveFor false) (all-same-tests (facts (moveFor false))
 
 -- ---- an instruction of such a code
 
-not-odd : (n : ℕ) → n % 2 ≡ 0 → odd n ≡ false
-not-odd n e = ne-eqb (n % 2) 1 (λ h. omega arith)
-
-module _ (code b a : ℕ) (is : Plain code) (even : wordCode code ≡ true → (a % 2 ≡ 0) × (b % 2 ≡ 0)) where
-  pairs-even : oddPair code b a ≡ false
-  unfolding oddPair
-  pairs-even = rw (is .no-input) (go (twoCycle code) (is .two))
-    where
-      go : (t : Bool) → t ≡ wordCode code → (t && (odd a || odd b)) || (false && odd a) ≡ false
-      go true e = rw (not-odd a (even (sym e) .0), not-odd b (even (sym e) .1))
-      go false e = refl
-
+module _ (code b a : ℕ) (is : Plain code) where
   no-option : noOption code b ≡ false
   unfolding noOption
   no-option = rw (under 0xE0 0xE3 code (is .till), under 0xE4 0xE5 code (omega (arith, is .till)))
@@ -126,9 +113,7 @@ module _ (code b a : ℕ) (is : Plain code) (even : wordCode code ≡ true → (
           lt-ltb _ _ (takes .word),
           takes .top,
           takes .source,
-          takes .target,
           is .listed,
-          pairs-even,
           no-option,
           goes-on (s .reply) (s .busy),
         )
@@ -137,10 +122,10 @@ module _ (code b a : ℕ) (is : Plain code) (even : wordCode code ≡ true → (
     unfolding conditionFails
     unconditional = rw (takes .top, is .no-c, is .no-ics)
 
-    pub stores : storedIn (takenWord ws k) ≡ registersFrom (wordCode code) a
+    pub stores : (wordCode code ≡ true → a % 2 ≡ 0) → storedIn (takenWord ws k) ≡ registersFrom (wordCode code) a
     unfolding storedIn
-    stores = rw (takes .top, takes .target, is .pair, is .no-rb, is .ra) (go (wordCode code))
+    stores even = rw (takes .top, takes .target, is .pair, is .no-rb, is .ra) (go (wordCode code) even)
       where
-        go : (t : Bool) → pick t (a ∷ (a + 1) ∷ []) (pick (not t) (a ∷ []) []) ≡ registersFrom t a
-        go true = refl
-        go false = refl
+        go : (t : Bool) → (t ≡ true → a % 2 ≡ 0) → pick t (a ∷ inverted a ∷ []) (pick (not t) (a ∷ []) []) ≡ registersFrom t a
+        go true e = rw (inverted-of-even a (e refl))
+        go false e = refl

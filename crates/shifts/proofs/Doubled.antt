@@ -10,6 +10,7 @@ use Rattle.alu.specs.declared.Flags.{Flags}
 use Rattle.alu.specs.declared.Kind.{Kind}
 use Rattle.numbers.specs.Numbers.{Bytes}
 use Rattle.state.specs.File.{registerOf}
+use Rattle.state.specs.Pairs.{inverted}
 use Rattle.table_laws.proofs.Arithmetic.{Shows, byte-same, low-first-joined}
 use Rattle.table_laws.proofs.Performed.{register-below}
 use Rattle.table_laws.specs.Operations.{Result, shiftLeftOf, sumOf}
@@ -43,4 +44,4 @@ pub doubled : (word : Bool) (xs : List ℕ) (g d : ℕ) (c : Bool) (f : Flags) �
     → let q = numberIn word xs g d in
     shiftLeftOf (rangeOf word) q c ≡ sumOf (rangeOf word) q q c
 doubled false xs g d c f h = byte-doubled (registerOf xs g d) c f (register-below g xs h d)
-doubled true xs g d c f h = word-doubled (registerOf xs g d) (registerOf xs g (d + 1)) c f (register-below g xs h d) (register-below g xs h (d + 1))
+doubled true xs g d c f h = word-doubled (registerOf xs g d) (registerOf xs g (inverted d)) c f (register-below g xs h d) (register-below g xs h (inverted d))

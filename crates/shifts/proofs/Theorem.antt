@@ -1,6 +1,6 @@
 -- A left shift leaves the registers and the flags that its add leaves: both attempts perform the same result, and write the same registers.
 -- Assumes nothing.
-use Prim.Native.Nat.{ℕ, zero, suc, _+_, _%_, _<_}
+use Prim.Native.Nat.{ℕ, _+_, _%_, _<_}
 use mathlib.Core.Path.{_≡_, refl, ap, sym, _∙_}
 use mathlib.Core.Bool.{Bool, true, false, not}
 use mathlib.Core.List.{List}
@@ -14,34 +14,28 @@ use Rattle.attempt.specs.Attempt.{attemptOf}
 use Rattle.attempt.specs.declared.Outcome.{Outcome}
 use Rattle.attempt_laws.proofs.Range.{attempt-in-range}
 use Rattle.attempt_laws.specs.Fate.{within}
+use Rattle.choose.specs.Ranged.{pick}
 use Rattle.rows.specs.Range.{rowsInRange}
 use Rattle.rows.specs.declared.Row.{Row}
+use Rattle.state.proofs.Pairs.{inverted-of-even}
 use Rattle.state.specs.File.{Leaves, slotOf, registerOf}
 use Rattle.state.specs.Range.{InRange, SampleInRange}
 use Rattle.state.specs.declared.Core.{Core}
 use Rattle.state.specs.declared.Sample.{Sample}
 use Rattle.table_laws.proofs.Arithmetic.{no}
+use Rattle.table_laws.proofs.Found.{found-alike}
 use Rattle.table_laws.proofs.Lines.{above, under}
 use Rattle.table_laws.proofs.Performed.{register-below}
 use Rattle.table_laws.proofs.Registers.{attempt-places}
-use Rattle.table_laws.proofs.Set.{attempt-sets}
-use Rattle.table_laws.specs.Operations.{Result, Line, Each, end, _also_, written, logicalOf, operations, shiftLeftOf, sumOf}
-use Rattle.table_laws.specs.Set.{oddCode, wordCode, numberIn, rangeOf, Performed}
+use Rattle.table_laws.proofs.Set.{attempt-sets, noLine, each-at}
+use Rattle.table_laws.specs.Operations.{Result, Line, logicalOf, operations, shiftLeftOf, sumOf}
+use Rattle.table_laws.specs.Set.{oddCode, wordCode, numberIn, rangeOf, Performed, pairFound, shiftsRight}
 use Rattle.table_laws.specs.Table.{Elsewhere}
 use Rattle.shifts.specs.Shifts.{addFor, Takes, registersFrom, Already, moveFor, Doubling, Agrees}
 use Rattle.shifts.proofs.Codes.{Plain, Alike, move-plain, shift-plain, add-plain, both-alike, completes, unconditional, stores}
 use Rattle.shifts.proofs.Doubled.{doubled}
 
 -- ---- one attempt
-
-abbrev noLine : Line
-noLine = written 0 0 (λ h p q f. logicalOf h p f)
-
--- what holds of each line holds of line i
-each-at : {P : Line → Type 0} {ls : List Line} → Each P ls → (i : ℕ) → i < length ls → P (getD ls i noLine)
-each-at end i h = absurd (omega arith)
-each-at (p also ps) zero h = p
-each-at (p also ps) (suc i) h = each-at ps i (omega arith)
 
 -- where the code is one of the line's, the attempt leaves what the line gives of Ra and Rb, or their pairs
 abbrev Gives : List ℕ → List Row → List ℕ → Core → Sample → ℕ → ℕ → ℕ → Line → Type 0
@@ -55,15 +49,28 @@ Gives ws rs xs k s code b a line =
 
 module _ (code b a : ℕ) (is : Plain code) (even : wordCode code ≡ true → (a % 2 ≡ 0) × (b % 2 ≡ 0))
     (ws : List ℕ) (rs : List Row) (xs : List ℕ) (k : Core) (s : Sample) (takes : Takes code b a ws k s) (range : InRange xs k) (sample : SampleInRange s) where
+  -- even pairs are found as they were
+  found : (i : ℕ)
+      → let g = k .latches .g in
+      pick (wordCode code) (pairFound (getD operations i noLine) (shiftsRight code) xs g (k .flags) b a) (registerOf xs g b)
+      ≡ numberIn (wordCode code) xs g b
+  found i = go (wordCode code) even
+    where
+      go : (w : Bool) → (w ≡ true → (a % 2 ≡ 0) × (b % 2 ≡ 0))
+          → let g = k .latches .g in
+          pick w (pairFound (getD operations i noLine) (shiftsRight code) xs g (k .flags) b a) (registerOf xs g b) ≡ numberIn w xs g b
+      go true e = found-alike (getD operations i noLine) xs (k .latches .g) (k .flags) (shiftsRight code) b a (e refl .0 ∙ sym (e refl .1))
+      go false e = refl
+
   performs : (i : ℕ) → i < length operations → Gives ws rs xs k s code b a (getD operations i noLine)
   performs i h here =
-      let sets = attempt-sets ws rs xs k s range sample (completes code b a is even ws k s takes) (unconditional code b a is even ws k s takes) in
-      rw (takes .top, takes .source, takes .target, above 0x20 0x6F code (omega (arith, is .from)), under 0xE0 0xE7 code (is .till)) at
+      let sets = attempt-sets ws rs xs k s range sample (completes code b a is ws k s takes) (unconditional code b a is ws k s takes) in
+      rw (takes .top, takes .source, takes .target, above 0x20 0x6F code (omega (arith, is .from)), under 0xE0 0xE7 code (is .till), found i) at
       (each-at (sets .operation) i h .performed (rw (takes .top) here))
 
   -- and every other register as it was
   places : (i : ℕ) → Elsewhere (k .latches .g) (registersFrom (wordCode code) a) i → getD (attemptOf ws rs xs k s .file) i 0 ≡ getD xs i 0
-  places i n = attempt-places ws rs xs k s i (rw (stores code b a is even ws k s takes) n)
+  places i n = attempt-places ws rs xs k s i (rw (stores code b a is ws k s takes (λ e. even e .0)) n)
 
 -- ---- two attempts
 
@@ -80,19 +87,23 @@ module _ (g a : ℕ) where
       go true e false j false l = others i (rw e (eqb-false i (slotOf g a) j, (eqb-false i (slotOf g (a + 1)) l, tt)))
 
   -- files with the same number in Ra, or in the pair, and the same bytes elsewhere are the same
-  same-files : (word : Bool) (es ds : List ℕ) (k m : Core) → InRange es k → InRange ds m → numberIn word es g a ≡ numberIn word ds g a
+  same-files : (word : Bool) → (word ≡ true → a % 2 ≡ 0) → (es ds : List ℕ) (k m : Core) → InRange es k → InRange ds m
+      → numberIn word es g a ≡ numberIn word ds g a
       → ((i : ℕ) → Elsewhere g (registersFrom word a) i → getD es i 0 ≡ getD ds i 0) → es ≡ ds
   unfolding registerOf
-  same-files word es ds k m h l number others =
-      ext-getD 0 es ds (h .size ∙ sym (l .size)) (λ i j. by-place (λ (n : ℕ). getD es n 0 ≡ getD ds n 0) word (ra word number) (high word number) others i)
+  same-files word even es ds k m h l number others =
+      ext-getD 0 es ds (h .size ∙ sym (l .size)) (λ i j. by-place (λ (n : ℕ). getD es n 0 ≡ getD ds n 0) word (ra word number) (high word even number) others i)
     where
       ra : (w : Bool) → numberIn w es g a ≡ numberIn w ds g a → registerOf es g a ≡ registerOf ds g a
       ra false e = e
       ra true e = omega (arith, register-below g es (h .bytes) a, register-below g ds (l .bytes) a)
 
-      high : (w : Bool) → numberIn w es g a ≡ numberIn w ds g a → w ≡ true → registerOf es g (a + 1) ≡ registerOf ds g (a + 1)
-      high false e i = no i
-      high true e i = omega (arith, register-below g es (h .bytes) a, register-below g ds (l .bytes) a)
+      high : (w : Bool) → (w ≡ true → a % 2 ≡ 0) → numberIn w es g a ≡ numberIn w ds g a → w ≡ true
+          → registerOf es g (a + 1) ≡ registerOf ds g (a + 1)
+      high false v e i = no i
+      high true v e i =
+          let same = rw (inverted-of-even a (v refl)) at e in
+          omega (arith, register-below g es (h .bytes) a, register-below g ds (l .bytes) a)
 
 same-flags : {r : Result} {word odd : Bool} {g a : ℕ} {xs ys es ds : List ℕ} {f e d : Flags} → Performed r true word odd g a xs es f e
     → Performed r true word odd g a ys ds f d → e ≡ d
@@ -146,7 +157,7 @@ module _ (code b a : ℕ) (ws us : List ℕ) (rs : List Row) (xs ys : List ℕ) 
       = ap (λ (q : ℕ). shiftLeftOf (rangeOf word) q c) (sym (given .same .held)) ∙ doubled word ys g a c (k .flags) (given .already .bytes) in
       let same = rw twice at h in
       record {
-        registers = same-files g a word _ _ _ _ (attempt-in-range ws rs xs k s (given .rows) (given .state) (given .sample))
+        registers = same-files g a word (λ e. given .even e .0) _ _ _ _ (attempt-in-range ws rs xs k s (given .rows) (given .state) (given .sample))
             (attempt-in-range us rs ys k s (given .rows) (given .already) (given .sample))
             (same .stored refl ∙ sym (l .stored refl)) others;
         flags = same-flags same l;

@@ -1,6 +1,6 @@
 -- Laws of the register file: a write changes that register and no other.
 -- Assumes nothing.
-use Prim.Native.Nat.{ℕ, _+_, _*_, _%_, _<_, suc, _≤_}
+use Prim.Native.Nat.{ℕ, _+_, _*_, _%_, _<_, _≤_}
 use mathlib.Core.Path.{_≡_, refl}
 use mathlib.Core.Bool.{Bool, true, false}
 use mathlib.Core.List.{List}
@@ -11,7 +11,7 @@ use lib.ListN.{length, getD, length-set}
 use lib.Seq.{getD-set-same, getD-set-other}
 use borrow.Author.Tests.{leb-false, le-leb}
 use Rattle.choose.specs.Ranged.{pick}
-use Rattle.state.specs.File.{slotOf, registerOf, writtenOf, highOf}
+use Rattle.state.specs.File.{slotOf, registerOf, writtenOf}
 
 pub slot-below : (g d : ℕ) → slotOf g d < 26
 unfolding slotOf
@@ -41,7 +41,3 @@ unfolding slotOf
 slot-is g d lo hi =
     let same : d % 16 ≡ d = mod-eq-of-lt (omega arith) in
     rw (same, le-leb 2 d lo)
-
-pub high-is : (a : ℕ) → suc a ≤ 0xF → highOf a ≡ suc a
-unfolding highOf
-high-is a h = omega arith

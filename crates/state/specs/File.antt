@@ -1,6 +1,7 @@
 -- The register file of 26, and the registers that designators name. 01, "Registers".
 use Prim.Native.Nat.{ℕ, _+_, _*_, _%_}
 use mathlib.Core.List.{List}
+use lib.Bits.{bitXor}
 use lib.Dec.{ltb, leb}
 use lib.ListN.{getD, set}
 use Rattle.choose.specs.Ranged.{pick}
@@ -22,9 +23,9 @@ gSlot j = pick (ltb j 12) j (10 + j)
 unfoldable pub slotOf : ℕ → ℕ → ℕ
 slotOf g d = pick (leb 2 (d % 16)) (10 + d % 16) (gSlot (g % 8 * 2 + d % 16))
 
--- "A pair is Ra (low) and Ra+1"
+-- 02, L6: "the high byte's designator is the low one's with its lowest bit inverted"
 unfoldable pub highOf : ℕ → ℕ
-highOf d = (d % 16 + 1) % 16
+highOf d = bitXor (d % 16) 1
 
 unfoldable pub registerOf : List ℕ → ℕ → ℕ → ℕ
 registerOf xs g d = getD xs (slotOf g d) 0

@@ -65,11 +65,11 @@ pub fn slot(g: u8, d: u8) -> usize
     10 + j as usize
 }
 
-// The designator of a pair's high byte.
+// The designator of a pair's high byte: the low one's with its lowest bit inverted.
 pub fn high(d: u8) -> u8
     ensures { λ r. ⌜ r ≡ highOf d ⌝ }
 {
-    (d % 16 + 1) % 16
+    d % 16 ^ 1
 }
 
 pub fn register(file: &[u8; 26], g: u8, d: u8) -> u8

@@ -11,7 +11,7 @@ use Rattle.alu.specs.declared.Flags.{Flags}
 use Rattle.attempt.specs.Attempt.{outcomeOf, executedOf, checkedOf, modifiedOf, fetchedOf, attemptedOf, outputsOf, attemptOf}
 use Rattle.numbers.specs.Numbers.{wordAt}
 use Rattle.attempt.specs.Effect.{registerEffect, effectOf}
-use Rattle.checks.specs.Checks.{oddDesignatorOf, designatorRefusalOf, wordRefusalOf}
+use Rattle.checks.specs.Checks.{designatorRefusalOf, wordRefusalOf}
 use Rattle.choose.specs.Ranged.{bit, pick}
 use Rattle.code.specs.CodeRows.{classOf}
 use Rattle.code.specs.Word.{operandsIn, fieldsIn, apartOf}
@@ -30,7 +30,7 @@ use Rattle.sums.specs.Sums.{Step, Sign, stepCode, instructionOf, isPair,
 use Rattle.attempt_laws.specs.After.{hasBit, following}
 use Rattle.attempt_laws.specs.Fate.{userBits}
 use Rattle.sums.specs.Sums.Step.{byte, pair}
-use Rattle.sums.proofs.Codes.{cycles, pairs, options, goes-on, bus-kept, latches-kept, no-request, no-rtsr, working, class, no-cad, word-bit, stepCarry}
+use Rattle.sums.proofs.Codes.{cycles, options, goes-on, bus-kept, latches-kept, no-request, no-rtsr, working, class, no-cad, word-bit, stepCarry}
 use Rattle.sums.proofs.Cycles.{Fits, stepMade, step-is}
 use Rattle.state.specs.File.{Leaves, leaves}
 use Rattle.attempt.specs.declared.Outcome.{Outcome}
@@ -63,16 +63,14 @@ apart-is w c b a k h hb ha e =
 
 -- ---- neither refused nor held
 
+source-below : (t : Step) → Fits t → sourceOf t ≤ 15
+source-below (byte a b) h = h .3
+source-below (pair a b) h = omega (arith, h .3)
+
 refusal-none : (sign : Sign) (later : Bool) (t : Step) → Fits t → wordRefusalOf (stepCode sign later (isPair t)) (Operands.Two (sourceOf t) (targetOf t)) ≡ 0
-unfolding wordRefusalOf designatorRefusalOf oddDesignatorOf
-refusal-none sign later (byte a b) h =
-    let c = stepCode sign later false in
-    let r = working sign later false in
-    rw (no-cad sign later false, pairs c r, word-bit sign later false, options c r, le-ltb 15 b (omega arith))
-refusal-none sign later (pair a b) h =
-    let c = stepCode sign later true in
-    let r = working sign later true in
-    rw (no-cad sign later true, pairs c r, word-bit sign later true, options c r, h .4, h .5, le-ltb 15 b (omega arith))
+unfolding wordRefusalOf designatorRefusalOf
+refusal-none sign later t h =
+    rw (no-cad sign later (isPair t), options (stepCode sign later (isPair t)) (working sign later (isPair t)), le-ltb 15 (sourceOf t) (source-below t h))
 
 -- ---- executed
 

@@ -1,5 +1,5 @@
 -- What the register codes 80-DF share, and what the eight codes are. Assumes nothing.
-use Prim.Native.Nat.{ℕ, _+_, _*_, _<_, _≤_}
+use Prim.Native.Nat.{ℕ, _+_, _<_, _≤_}
 use mathlib.Core.Path.{_≡_, refl}
 use mathlib.Core.Bool.{Bool, true, false, not}
 use mathlib.Core.List.{List}
@@ -11,7 +11,7 @@ use Rattle.alu.specs.declared.Kind.{Kind}
 use Rattle.checks.specs.Checks.{waitingOf}
 use Rattle.choose.proofs.Ranged.{in-arm}
 use Rattle.choose.specs.Ranged.{bit, ranged}
-use Rattle.code.specs.CodeRows.{classOf, cyclesOf, pairsOf, waitsOf, optionsOf, wordBit}
+use Rattle.code.specs.CodeRows.{classOf, cyclesOf, waitsOf, optionsOf, wordBit}
 use Rattle.code.specs.declared.Class.{Class}
 use Rattle.control.specs.Bus.{busAfter, requestOf}
 use Rattle.control.specs.Latches.{used, latchesAfter}
@@ -37,10 +37,6 @@ module _ (c : ℕ) (h : Working c) where
   pub cycles : cyclesOf c ≡ 1 + wordBit c
   unfolding cyclesOf
   cycles = in-arm c _ _ 2 0x80 tt (h .0) (omega arith)
-
-  pub pairs : pairsOf c ≡ 3 * wordBit c
-  unfolding pairsOf
-  pairs = in-arm c _ _ 1 0x80 tt (h .0) (h .1)
 
   pub options : optionsOf c ≡ 15
   unfolding optionsOf

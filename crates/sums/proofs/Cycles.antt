@@ -12,7 +12,8 @@ use Rattle.alu.specs.declared.Cycle.{Cycle}
 use Rattle.alu.specs.declared.Flags.{Flags}
 use Rattle.cycles.specs.Cycles.{operandOf, stepOf, oneCycleOf, twoCyclesOf}
 use Rattle.execute.specs.Execute.{designators, registersOf}
-use Rattle.state.proofs.Laws.{high-is, slot-is}
+use Rattle.state.proofs.Laws.{slot-is}
+use Rattle.state.proofs.Pairs.{high-of-even}
 use Rattle.state.specs.File.{Leaves, leaves, slotOf, registerOf, writtenOf}
 use Rattle.state.specs.declared.Core.{Core}
 use Rattle.sums.specs.Sums.{Step, Sign, stepCode, c8Of, isPair, sourceOf, targetOf, placeOf}
@@ -86,7 +87,7 @@ step-is sign later (byte a b) xs k dal h =
 step-is sign later (pair a b) xs k dal h =
     let g = k .latches .g in
     cycles-are sign later true xs k dal b a
-    ∙ rw (high-is a (h .1), high-is b (h .3))
+    ∙ rw (high-of-even a (h .4) (omega arith), high-of-even b (h .5) (omega arith))
     (two-is sign xs g (k .flags) (stepCarry sign later (k .flags)) a b
     (slot-is g a (omega arith) (omega arith)) (slot-is g b (omega arith) (omega arith))
     (slot-is g (suc a) (omega arith) (omega arith)) (slot-is g (suc b) (omega arith) (omega arith)))

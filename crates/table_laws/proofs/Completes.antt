@@ -6,23 +6,21 @@ use mathlib.Core.List.{List}
 use native.Mathlib.Omega.{arith}
 use lib.Dec.{ltb}
 use lib.ListN.{length}
-use Rattle.attempt_laws.specs.Fate.{Fate, refused, reset, compute-low, completed, noCode, oddPair, bIn, aIn, wordFate, takenWord, fateOf}
+use Rattle.attempt_laws.specs.Fate.{Fate, refused, reset, compute-low, completed, noCode, wordFate, takenWord, fateOf}
 use Rattle.choose.specs.Ranged.{pick}
 use Rattle.code.specs.Word.{topOf}
 use Rattle.state.specs.declared.Core.{Core}
 use Rattle.state.specs.declared.Sample.{Sample}
 
--- a word that completes is neither unlisted nor AC, and its pairs are even
-pub word-completes : (word : ℕ) (s : Sample) → wordFate word s ≡ completed
-    → (noCode (topOf word) ≡ false) × (oddPair (topOf word) (bIn word) (aIn word) ≡ false)
+-- a word that completes is neither unlisted nor AC
+pub word-completes : (word : ℕ) (s : Sample) → wordFate word s ≡ completed → noCode (topOf word) ≡ false
 unfolding wordFate
-word-completes word s e = go (ltb word 0x40_0000) (noCode (topOf word)) (oddPair (topOf word) (bIn word) (aIn word)) _ e
+word-completes word s e = go (ltb word 0x40_0000) (noCode (topOf word)) _ e
   where
-    go : (t n d : Bool) (f : Fate) → pick t (pick n (refused 6) (pick d (refused 7) f)) (refused 2) ≡ completed → (n ≡ false) × (d ≡ false)
-    go true true d f e = let z : _≡_ {A = ℕ} 0 1 = cc in absurd (omega arith)
-    go true false true f e = let z : _≡_ {A = ℕ} 0 1 = cc in absurd (omega arith)
-    go true false false f e = (refl, refl)
-    go false n d f e = let z : _≡_ {A = ℕ} 0 1 = cc in absurd (omega arith)
+    go : (t n : Bool) (f : Fate) → pick t (pick n (refused 6) f) (refused 2) ≡ completed → n ≡ false
+    go true true f e = let z : _≡_ {A = ℕ} 0 1 = cc in absurd (omega arith)
+    go true false f e = refl
+    go false n f e = let z : _≡_ {A = ℕ} 0 1 = cc in absurd (omega arith)
 
 -- and it is the word taken at LC
 pub taken-completes : (ws : List ℕ) (k : Core) (s : Sample) → fateOf ws k s ≡ completed → wordFate (takenWord ws k) s ≡ completed

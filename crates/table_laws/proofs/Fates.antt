@@ -4,12 +4,12 @@ use mathlib.Core.Path.{_≡_, refl, ap, _∙_}
 use mathlib.Core.Bool.{Bool, true, false, not, _&&_, _||_, Bool·beq}
 use mathlib.Core.List.{List}
 use native.Mathlib.Omega.{arith}
-use lib.Dec.{T, eqb, ltb}
+use lib.Dec.{eqb, ltb}
 use borrow.Author.Tests.{lt-ltb}
 use Rattle.attempt.specs.Attempt.{executedOf, outputsOf, attemptOf}
 use Rattle.attempt_laws.proofs.Fate.{attempt-fate}
 use Rattle.attempt_laws.specs.Fate.{Fate, refused, waited, reset, compute-low, completed}
-use Rattle.attempt_laws.specs.Fate.{within, noCode, twoCycle, inputWord, oddPair, noOption, mustWait, bIn, aIn, wordFate, takenWord, fateOf, EndsAs}
+use Rattle.attempt_laws.specs.Fate.{within, noCode, noOption, mustWait, bIn, wordFate, takenWord, fateOf, EndsAs}
 use Rattle.choose.proofs.Table.{below}
 use Rattle.choose.proofs.Tests.{both-left, both-right, equal-tests}
 use Rattle.choose.specs.Below.{allBelow}
@@ -17,7 +17,7 @@ use Rattle.choose.specs.Ranged.{pick, ranged}
 use Rattle.code.proofs.Digits.{row-of-code}
 use Rattle.code.proofs.Laws.{apart-well-formed, apart-code}
 use Rattle.code.proofs.Shape.{fit-listed}
-use Rattle.code.specs.CodeRows.{classOf, listed, cyclesOf, pairsOf, waitsOf, optionsOf, rowOf}
+use Rattle.code.specs.CodeRows.{classOf, listed, cyclesOf, waitsOf, optionsOf, rowOf}
 use Rattle.code.specs.Word.{topOf, apartOf}
 use Rattle.code.specs.declared.Apart.{Apart}
 use Rattle.code.specs.declared.Fields.{Fields}
@@ -26,7 +26,7 @@ use Rattle.rows.specs.declared.Outputs.{Outputs}
 use Rattle.rows.specs.declared.Row.{Row}
 use Rattle.state.specs.declared.Core.{Core}
 use Rattle.state.specs.declared.Sample.{Sample}
-use Rattle.table_laws.specs.Fates.{costOf, oddBy, waitsBy, rowFate}
+use Rattle.table_laws.specs.Fates.{costOf, waitsBy, rowFate}
 use Rattle.state.specs.File.{Leaves}
 use Rattle.attempt.specs.declared.Outcome.{Outcome}
 
@@ -67,15 +67,6 @@ unfolding noCode rowOf classOf ranged
 no-code code h = equal-tests _ _ (below 0x100 (λ x. Bool·beq (noCode x) (not (listed (rowOf x .class)) || eqb x 0xAC)) tt code h)
 
 module _ (code : ℕ) (h : code < 0x100) (l : noCode code ≡ false) where
-  -- 7
-  odd-pair : (b a : ℕ) → oddPair code b a ≡ oddBy (rowOf code) b a
-  unfolding noCode oddPair rowOf classOf ranged pairsOf
-  odd-pair b a =
-      let two : ℕ → Bool = λ x. Bool·beq (twoCycle x) (eqb (rowOf x .pairs) 3) in
-      let one : ℕ → Bool = λ x. Bool·beq (inputWord x) (eqb (rowOf x .pairs) 1) in
-      let t : T (two code && one code) = rw l at (below 0x100 (λ x. pick (noCode x) true (two x && one x)) tt code h) in
-      rw (equal-tests (twoCycle code) _ (both-left (two code) (one code) t), equal-tests (inputWord code) _ (both-right (two code) (one code) t))
-
   -- 8
   no-option : (b : ℕ) → b < 16 → noOption code b ≡ ltb (rowOf code .options) b
   unfolding noCode noOption rowOf classOf ranged optionsOf
@@ -94,12 +85,12 @@ module _ (code : ℕ) (h : code < 0x100) (l : noCode code ≡ false) where
         equal-tests (within 0xE0 0xE3 code || within 0xFC 0xFD code) _ (both-right (busies code) (replies code) t),
       )
 
-otherwise : {A : Type 0} (t : Bool) (a b c : A) → (t ≡ false → b ≡ c) → pick t a b ≡ pick t a c
+-- two choices by one test that differ only where it fails
+pub otherwise : {A : Type 0} (t : Bool) (a b c : A) → (t ≡ false → b ≡ c) → pick t a b ≡ pick t a c
 otherwise true a b c h = refl
 otherwise false a b c h = h refl
 
--- the table says of every word what 01's lists say: so 7 is given only where `pairs` is not 0, 8 only where b is over `options`, and a word waits only
--- where `waits` is not 0
+-- the table says of every word what 01's lists say: so 8 is given only where b is over `options`, and a word waits only where `waits` is not 0
 pub word-fate-is : (word : ℕ) (s : Sample) → word < 0x40_0000 → wordFate word s ≡ rowFate (rowOf (topOf word)) word s
 unfolding wordFate rowFate
 word-fate-is word s h =
@@ -107,4 +98,4 @@ word-fate-is word s h =
     let below : code < 0x100 = omega arith in
     rw (lt-ltb word 0x40_0000 h, ← no-code code below)
     (otherwise (noCode code) _ _ _
-    (λ l. rw (odd-pair code below l (bIn word) (aIn word), no-option code below l (bIn word) (omega arith), must-wait code below l (s .reply) (s .busy))))
+    (λ l. rw (no-option code below l (bIn word) (omega arith), must-wait code below l (s .reply) (s .busy))))

@@ -6,6 +6,7 @@ pub mod Fates
 pub mod Completes
 pub mod Arithmetic
 pub mod Performed
+pub mod Found
 pub mod Lines
 pub mod Set
 pub mod Registers

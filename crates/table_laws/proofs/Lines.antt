@@ -6,18 +6,18 @@ use mathlib.Core.List.{List, [], _∷_}
 use native.Mathlib.Omega.{arith}
 use lib.Dec.{eqb, leb, ltb}
 use lib.ListN.{getD}
-use borrow.Author.Tests.{leb-true, ltb-true, lt-ltb, le-ltb, le-leb, lt-leb, eq-eqb, ne-eqb, eqb-true, eqb-false}
-use Rattle.alu.specs.Cycle.{keptOf, subtractOf, cycleOf}
+use borrow.Author.Tests.{leb-true, ltb-true, lt-ltb, le-ltb, le-leb, lt-leb, eq-eqb, ne-eqb, eqb-true}
+use Rattle.alu.specs.Cycle.{keptOf, subtractOf, cycleOf, highFirstOf}
 use Rattle.alu.specs.Marks.{afterByteOf}
 use Rattle.alu.specs.declared.Flags.{Flags}
 use Rattle.alu.specs.declared.Kind.{Kind}
 use Rattle.attempt.specs.Attempt.{executedOf}
 use Rattle.attempt.specs.Effect.{literalEffect, registerEffect, effectOf}
-use Rattle.attempt_laws.specs.Fate.{within, odd, noCode, oddPair, twoCycle, inputWord, bIn, aIn}
+use Rattle.attempt_laws.specs.Fate.{within, odd, noCode, bIn, aIn}
 use Rattle.choose.proofs.Choice.{pick-all}
 use Rattle.choose.proofs.Ranged.{in-arm, in-rest}
 use Rattle.choose.proofs.Table.{below}
-use Rattle.choose.proofs.Tests.{both-true, equal-tests, holds}
+use Rattle.choose.proofs.Tests.{both-true, equal-tests}
 use Rattle.choose.specs.Ranged.{pick, ranged}
 use Rattle.code.proofs.Shape.{same-class}
 use Rattle.code.specs.CodeRows.{classOf, classes}
@@ -31,13 +31,14 @@ use Rattle.execute.specs.Execute.{upperOf, selectedOf, inputOf, accessOf, regis
 use Rattle.plan.specs.Plan.{planWith, plans, planOf, conditionMet, literalPlanOf}
 use Rattle.rows.specs.declared.Outputs.{Outputs}
 use Rattle.state.specs.File.{Leaves, leaves, highOf, registerOf}
+use Rattle.state.specs.Pairs.{inverted}
 use Rattle.state.specs.Range.{InRange, SampleInRange}
 use Rattle.state.specs.declared.Core.{Core}
 use Rattle.state.specs.declared.Sample.{Sample}
 use Rattle.table_laws.specs.Operations.{Result, Line, Each, end, _also_, written, unwritten, sumOf, logicalOf, differenceOf, operations}
-use Rattle.table_laws.specs.Set.{oddCode, wordCode, numberIn, rangeOf, Performed, inputByte, otherOf, Performs}
+use Rattle.table_laws.specs.Set.{oddCode, wordCode, numberIn, rangeOf, Performed, inputByte, pairFound, shiftsRight, otherOf, Performs}
 use Rattle.table_laws.proofs.Arithmetic.{no, byte-same}
-use Rattle.table_laws.proofs.Performed.{Fits, ofPlan, performed, one-performed, two-performed}
+use Rattle.table_laws.proofs.Performed.{Fits, Named, ofPlan, lineOf, performed, one-performed, two-performed, pair-performed}
 
 -- ---- a choice that doesn't change within a line's codes
 
@@ -79,7 +80,7 @@ within-is lo hi x e =
     let (l, h) = both-true (leb lo x) (leb x hi) e in
     (leb-true lo x l, leb-true x hi h)
 
-is-within : (lo hi x : ℕ) → lo ≤ x → x ≤ hi → within lo hi x ≡ true
+pub is-within : (lo hi x : ℕ) → lo ≤ x → x ≤ hi → within lo hi x ≡ true
 is-within lo hi x l h = rw (le-leb lo x l, le-leb x hi h)
 
 pub above : (lo hi x : ℕ) → hi < x → within lo hi x ≡ false
@@ -91,28 +92,6 @@ above lo hi x h = go (leb lo x)
 
 pub under : (lo hi x : ℕ) → x < lo → within lo hi x ≡ false
 under lo hi x h = rw (lt-leb lo x h)
-
--- ---- "Refusal 7 tests a and b for the two-cycle codes 82-DF, and a alone for IW and ISW"
-
-tested : (two input a b : Bool) → (two && (a || b)) || (input && a) ≡ false → (two || input ≡ true → a ≡ false) × (two ≡ true → b ≡ false)
-tested true input false false e = ((λ h. refl), (λ h. refl))
-tested true input true b e = no (sym e)
-tested true input false true e = no (sym e)
-tested false true false b e = ((λ h. refl), no)
-tested false true true b e = no (sym e)
-tested false false a b e = (no, no)
-
-digit-zero : (x : ℕ) → x < 2 → (x ≡ 1 → ⊥) → x ≡ 0
-digit-zero zero l h = refl
-digit-zero (suc zero) l h = absurd (h refl)
-digit-zero (suc (suc x)) l h = absurd (omega arith)
-
-is-even : (n : ℕ) → odd n ≡ false → n % 2 ≡ 0
-is-even n e = digit-zero (n % 2) (omega arith) (eqb-false (n % 2) 1 e)
-
--- below E0 the word codes are the two-cycle ones
-two-cycle : (code : ℕ) → code < 0xE0 → wordCode code ≡ true → twoCycle code ≡ true
-two-cycle code h e = holds _ (rw e at (below 0xE0 (λ x. pick (wordCode x) (twoCycle x) true) tt code h))
 
 -- an equal result, written or not alike
 restated : {r r′ : Result} {w w′ word odd : Bool} {g a : ℕ} {xs ys : List ℕ} {f f′ : Flags} → r ≡ r′ → w ≡ w′
@@ -135,6 +114,17 @@ unfolding fits
 fits-is Operand.A e = tt
 fits-is Operand.B e = tt
 fits-is (Operand.Number n) e = ltb-true n 256 e
+
+named : Operand → Bool
+named Operand.A = true
+named Operand.B = true
+named (Operand.Number n) = false
+
+named-is : (o : Operand) → named o ≡ true → Named o
+unfolding named
+named-is Operand.A e = tt
+named-is Operand.B e = tt
+named-is (Operand.Number n) e = no e
 
 -- ---- "IB and ISB: b mod 4: 0 upper, 1 lower, 2 upper if M bit 0, else lower, 3 the reverse"
 
@@ -173,7 +163,7 @@ access-is xs k dal code b a lo hi = in-arm code _ _ 4 0xF0 tt lo hi
 -- ---- an executed word that is not refused, its condition met
 
 module _ (xs : List ℕ) (k : Core) (s : Sample) (o : Outputs) (word : ℕ) (range : InRange xs k)
-    (is-code : noCode (topOf word) ≡ false) (even : oddPair (topOf word) (bIn word) (aIn word) ≡ false)
+    (is-code : noCode (topOf word) ≡ false)
     (met : conditionMet (topOf word) (k .flags .c) (k .latches .ics) ≡ true) where
   abbrev code : ℕ
   code = topOf word
@@ -197,7 +187,7 @@ module _ (xs : List ℕ) (k : Core) (s : Sample) (o : Outputs) (word : ℕ) (ran
 
   abbrev Holds : Line → Leaves Flags → Type 0
   Holds line m =
-      Performed (line .gives (rangeOf (wordCode code)) (numberIn (wordCode code) xs g a) (otherOf xs k s word) f) (line .writes) (wordCode code)
+      Performed (line .gives (rangeOf (wordCode code)) (numberIn (wordCode code) xs g a) (otherOf line xs k s word) f) (line .writes) (wordCode code)
       (oddCode code) g a xs (m .file) f (m .back)
 
   abbrev OfLine : Line → Type 0
@@ -213,14 +203,6 @@ module _ (xs : List ℕ) (k : Core) (s : Sample) (o : Outputs) (word : ℕ) (ran
   at-literal : (line : Line) → Holds line (literalOf xs g f (code / 0x10 * 0x10) (word / 0x10 % 0x100) a) → Holds line (executed Class.Literal)
   unfolding executedOf effectOf fieldsIn operandsIn literalEffect
   at-literal line h = h
-
-  even-a : wordCode code ≡ true → a % 2 ≡ 0
-  unfolding oddPair
-  even-a e = is-even a (tested (twoCycle code) (inputWord code) (odd a) (odd b) even .0 e)
-
-  even-b : code < 0xE0 → wordCode code ≡ true → b % 2 ≡ 0
-  unfolding oddPair
-  even-b h e = is-even b (tested (twoCycle code) (inputWord code) (odd a) (odd b) even .1 (two-cycle code h e))
 
   odd-is : within 0x80 0xE7 code ≡ true → oddCode code ≡ odd code
   odd-is in-it = odd-code code code-below ∙ rw in-it
@@ -238,30 +220,38 @@ module _ (xs : List ℕ) (k : Core) (s : Sample) (o : Outputs) (word : ℕ) (ran
     unfolding registersOf conditionedOf
     operation-is = in-arm code _ _ 1 0x80 tt lo hi ∙ rw met
 
-    other-is : otherOf xs k s word ≡ numberIn (wordCode code) xs g b
-    other-is = rw (above 0x20 0x6F code (omega arith), under 0xE0 0xE7 code hi)
+    other-is : (line : Line) → otherOf line xs k s word ≡ pick (wordCode code) (pairFound line (shiftsRight code) xs g f b a) (registerOf xs g b)
+    other-is line = rw (above 0x20 0x6F code (omega arith), under 0xE0 0xE7 code hi)
 
     inside : within 0x80 0xE7 code ≡ true
     inside = is-within 0x80 0xE7 code lo (omega arith)
 
     operation-performed : (plan : Plan) → planOf code f ≡ plan → Fits 256 (plan .p) → Fits 256 (plan .q)
+        → (highFirstOf (plan .kind) ≡ true → Named (plan .p) × Named (plan .q))
         → let m = operationOf xs g f code b a in
-        Performed (ofPlan plan (rangeOf (wordCode code)) (numberIn (wordCode code) xs g a) (numberIn (wordCode code) xs g b) f) (plan .stores)
+        let q = pick (wordCode code) (pairFound (lineOf plan) (highFirstOf (plan .kind)) xs g f b a) (registerOf xs g b) in
+        Performed (ofPlan plan (rangeOf (wordCode code)) (numberIn (wordCode code) xs g a) q f) (plan .stores)
         (wordCode code) (oddCode code) g a xs (m .file) f (m .back)
     unfolding operationOf
-    operation-performed plan e p q =
-        rw (e, odd-is inside) (go (eqb (code / 2 % 2) 0) (wordCode code) refl (word-is inside))
+    operation-performed plan e p q named = rw (e, odd-is inside) (go (eqb (code / 2 % 2) 0) (wordCode code) (word-is inside))
       where
-        go : (t w : Bool) → wordCode code ≡ w → w ≡ not t
+        go : (t w : Bool) → w ≡ not t
             → let m = pick t (oneCycleOf xs g f plan (designators a b) (odd code))
             (twoCyclesOf xs g f plan (designators a b) (designators (highOf a) (highOf b)) (odd code)) in
-            Performed (ofPlan plan (rangeOf w) (numberIn w xs g a) (numberIn w xs g b) f) (plan .stores) w (odd code) g a xs (m .file) f (m .back)
-        go true true i j = no (sym j)
-        go true false i j = one-performed g f plan xs (range .size) (range .bytes) a b (odd code) p q
-        go false true i j =
-            two-performed g f plan xs (range .size) (range .bytes) a b (odd code) (even-a i) (even-b hi i) (fits-more (plan .p) p) (fits-more (plan .q) q)
+            let q = pick w (pairFound (lineOf plan) (highFirstOf (plan .kind)) xs g f b a) (registerOf xs g b) in
+            Performed (ofPlan plan (rangeOf w) (numberIn w xs g a) q f) (plan .stores) w (odd code) g a xs (m .file) f (m .back)
+        go true true j = no (sym j)
+        go true false j = one-performed g f plan xs (range .size) (range .bytes) a b (odd code) p q
+        go false true j =
+            pair-performed g f plan xs (range .size) (range .bytes) a b (odd code) (fits-more (plan .p) p) (fits-more (plan .q) q) p q named
             (omega arith) (omega arith)
-        go false false i j = no j
+        go false false j = no j
+
+    -- the pair is found as the line says where the plan gives what the line gives
+    found-by-line : (line : Line) (plan : Plan) → plan .stores ≡ line .writes → ((h p q : ℕ) → ofPlan plan h p q f ≡ line .gives h p q f)
+        → (t : Bool) → pairFound (lineOf plan) t xs g f b a ≡ pairFound line t xs g f b a
+    found-by-line line plan writes gives true = rw (writes, gives 0x100 (registerOf xs g (inverted a)) (registerOf xs g (inverted b)))
+    found-by-line line plan writes gives false = rw (writes, gives 0x100 (registerOf xs g a) (registerOf xs g b))
 
   -- the codes of a line are of one class, Register
   abbrev registers : Line → Bool
@@ -280,28 +270,49 @@ module _ (xs : List ℕ) (k : Core) (s : Sample) (o : Outputs) (word : ℕ) (ran
   by-register line t h =
       record { performed = λ here. rw (register-class line t here) (at-register line (h (within-is (line .first) (line .last) code here))) }
 
+  -- the codes of a line begin with the same byte as its plan: the high one for the right shifts, whose operands are registers
+  abbrev ordered : Line → Plan → Bool
+  ordered line plan = pick (highFirstOf (plan .kind)) (leb 0xD8 (line .first) && named (plan .p) && named (plan .q)) (ltb (line .last) 0xD8)
+
+  in-order : (line : Line) (plan : Plan) → ordered line plan ≡ true → line .first ≤ code → code ≤ line .last → code < 0xE0
+      → (shiftsRight code ≡ highFirstOf (plan .kind)) × (highFirstOf (plan .kind) ≡ true → Named (plan .p) × Named (plan .q))
+  in-order line plan t l h u = go (highFirstOf (plan .kind)) t
+    where
+      go : (b : Bool) → pick b (leb 0xD8 (line .first) && named (plan .p) && named (plan .q)) (ltb (line .last) 0xD8) ≡ true
+          → (shiftsRight code ≡ b) × (b ≡ true → Named (plan .p) × Named (plan .q))
+      go true t =
+          let (t₁, q) = both-true _ (named (plan .q)) t in
+          let (from, p) = both-true (leb 0xD8 (line .first)) (named (plan .p)) t₁ in (
+            is-within 0xD8 0xDF code (omega (arith, leb-true 0xD8 (line .first) from)) (omega arith),
+            (λ e. (named-is (plan .p) p, named-is (plan .q) q)),
+          )
+      go false t = (under 0xD8 0xDF code (omega (arith, ltb-true (line .last) 0xD8 t)), no)
+
   -- a line of 80-DF: its codes have one plan, which writes as the line says
   abbrev planned : Line → Plan → Bool
   planned line plan =
-      leb 0x80 (line .first) && ltb (line .last) 0xE0 && unbroken (line .first) (line .last) (plans f) && fits (plan .p) && fits (plan .q)
+      leb 0x80 (line .first) && ltb (line .last) 0xE0 && unbroken (line .first) (line .last) (plans f) && fits (plan .p) && fits (plan .q) &&
+      ordered line plan
 
   by-plan : {line : Line} → registers line ≡ true → planned line (planOf (line .first) f) ≡ true → planOf (line .first) f .stores ≡ line .writes
       → ((h p q : ℕ) → ofPlan (planOf (line .first) f) h p q f ≡ line .gives h p q f) → OfLine line
   by-plan {line} c t writes gives =
       let plan = planOf (line .first) f in
-      let (t₄, q) = both-true _ (fits (plan .q)) t in
+      let (t₅, order) = both-true _ (ordered line plan) t in
+      let (t₄, q) = both-true _ (fits (plan .q)) t₅ in
       let (t₃, p) = both-true _ (fits (plan .p)) t₄ in
       let (t₂, arms) = both-true _ (unbroken (line .first) (line .last) (plans f)) t₃ in
       let (from, till) = both-true (leb 0x80 (line .first)) (ltb (line .last) 0xE0) t₂ in
       by-register line c (λ (l, h).
       let lo : 0x80 ≤ code = omega (arith, leb-true 0x80 (line .first) from) in
       let hi : code < 0xE0 = omega (arith, ltb-true (line .last) 0xE0 till) in
-      rw (operation-is lo hi, other-is lo hi)
+      let (right, named) = in-order line plan order l h hi in
+      rw (operation-is lo hi, other-is lo hi line, right, ← found-by-line lo hi line plan writes gives (highFirstOf (plan .kind)))
       (restated (gives _ _ _) writes
-      (operation-performed lo hi plan (one-plan code (line .first) (line .last) arms l h) (fits-is (plan .p) p) (fits-is (plan .q) q))))
+      (operation-performed lo hi plan (one-plan code (line .first) (line .last) arms l h) (fits-is (plan .p) p) (fits-is (plan .q) q) named)))
 
   -- what holds of a byte's result holds of a line whose codes are bytes
-  by-byte : (l : Line) (q : ℕ) (d : Bool) (m : Leaves Flags) → wordCode code ≡ false → oddCode code ≡ d → otherOf xs k s word ≡ q
+  by-byte : (l : Line) (q : ℕ) (d : Bool) (m : Leaves Flags) → wordCode code ≡ false → oddCode code ≡ d → otherOf l xs k s word ≡ q
       → Performed (l .gives 0x100 (registerOf xs g a) q f) (l .writes) false d g a xs (m .file) f (m .back) → Holds l m
   by-byte l q d m w e i h = rw (i, w, e) h
 
@@ -344,7 +355,7 @@ module _ (xs : List ℕ) (k : Core) (s : Sample) (o : Outputs) (word : ℕ) (ran
             = one-arm code (line .first) (line .last) classes Class.Unlisted arms l u ∙ same-class (classOf (line .first)) Class.Literal class in
             let own : code / 0x10 * 0x10 ≡ line .first = omega arith in
             let out = under 0x80 0xE7 code (omega arith) in
-            let other : otherOf xs k s word ≡ v = rw (is-within 0x20 0x6F code (omega arith) (omega arith)) in
+            let other : otherOf line xs k s word ≡ v = rw (is-within 0x20 0x6F code (omega arith) (omega arith)) in
             rw is (at-literal line (by-byte line v false _ (no-pair out) (status-only out) other (rw own h)));
       }
 
@@ -387,7 +398,7 @@ module _ (xs : List ℕ) (k : Core) (s : Sample) (o : Outputs) (word : ℕ) (ran
       by-register line t (λ within.
       let (out, e) = is within in
       rw e
-      (by-byte line (otherOf xs k s word) false _ (no-pair out) (status-only out) refl
+      (by-byte line (otherOf line xs k s word) false _ (no-pair out) (status-only out) refl
       (restated (sym (gives _)) (sym w) (gained n c h))))
 
   cib-is : 0x76 ≤ code → code < 0x77 → registersOf xs k (s .dal) code b a ≡ steppedByOf xs g f a 0
@@ -437,30 +448,30 @@ module _ (xs : List ℕ) (k : Core) (s : Sample) (o : Outputs) (word : ℕ) (ran
   by-input : s .dal < 65536 → OfLine (written 0xE0 0xE7 (λ h p q f. logicalOf h q f))
   unfolding inputOf classOf ranged
   by-input range-dal =
-      by-register (written 0xE0 0xE7 (λ h p q f. logicalOf h q f)) refl (λ (lo, hi).
+      let line = written 0xE0 0xE7 (λ h p q f. logicalOf h q f) in
+      by-register line refl (λ (lo, hi).
       let inside = is-within 0x80 0xE7 code (omega arith) hi in
       let dal = s .dal in
-      let other : otherOf xs k s word ≡ pick (wordCode code) dal (inputByte dal (k .bus .m) b)
+      let other : otherOf line xs k s word ≡ pick (wordCode code) dal (inputByte dal (k .bus .m) b)
       = rw (above 0x20 0x6F code (omega arith), is-within 0xE0 0xE7 code lo hi) in
-      rw (other, odd-is inside, input-is lo (omega arith)) (go range-dal (eqb (code / 2 % 2) 0) (wordCode code) refl (word-is inside)))
+      rw (other, odd-is inside, input-is lo (omega arith)) (go range-dal (eqb (code / 2 % 2) 0) (wordCode code) (word-is inside)))
     where
-      go : s .dal < 65536 → (t w : Bool) → wordCode code ≡ w → w ≡ not t
+      go : s .dal < 65536 → (t w : Bool) → w ≡ not t
           → let m = pick t (oneCycleOf xs g f (taking (selectedOf (s .dal) (k .bus .m) b)) (designators a a) (odd code))
           (twoCyclesOf xs g f (taking (s .dal)) (designators a a) (designators (highOf a) (highOf a)) (odd code)) in
           Performed (logicalOf (rangeOf w) (pick w (s .dal) (inputByte (s .dal) (k .bus .m) b)) f) true w (odd code) g a xs (m .file) f (m .back)
-      go h true true i j = no (sym j)
-      go h true false i j =
+      go h true true j = no (sym j)
+      go h true false j =
           rw (← selected-is (s .dal) (k .bus .m) b)
           (one-performed g f (taking (selectedOf (s .dal) (k .bus .m) b)) xs (range .size) (range .bytes) a a (odd code) tt
           (selected-below (s .dal) (k .bus .m) b h))
-      go h false true i j =
-          two-performed g f (taking (s .dal)) xs (range .size) (range .bytes) a a (odd code) (even-a i) (even-a i) tt h (omega arith) (omega arith)
-      go h false false i j = no j
+      go h false true j = two-performed g f (taking (s .dal)) xs (range .size) (range .bytes) a a (odd code) tt h (omega arith) (omega arith)
+      go h false false j = no j
 
   -- ---- every line
 
   pub lines : SampleInRange s → Each OfLine operations
-  unfolding ranged classOf literalPlanOf planOf fits
+  unfolding ranged classOf literalPlanOf planOf fits named
   lines h =
       by-literal-plan refl refl (tt, literal-below, refl, (λ h p q. refl)) also
       by-compare also

@@ -1,20 +1,19 @@
 -- One cycle, and the two of a word, on the register file: they leave the plan's result in Ra, or in the pair, and in the flags. Assumes nothing.
-use Prim.Native.Nat.{ℕ, _+_, _*_, _%_, _<_}
+use Prim.Native.Nat.{ℕ, _+_, _*_, _<_}
 use mathlib.Core.Path.{_≡_, refl, ap, ap₂, sym, _∙_}
 use mathlib.Core.Bool.{Bool, true, false, not, _&&_, and-comm}
 use mathlib.Core.List.{List}
 use native.Mathlib.Nat.{mod-eq-of-lt}
 use native.Mathlib.Omega.{arith}
-use lib.Dec.{eqb, leb, eqb→eq}
+use lib.Dec.{eqb}
 use lib.ListN.{length}
 use borrow.Author.Tests.{eq-eqb, ne-eqb, eqb-true, eqb-false}
 use Rattle.alu.specs.Cycle.{cycleOf, highFirstOf}
 use Rattle.alu.specs.Marks.{afterOf, afterByteOf, afterWordOf}
 use Rattle.alu.specs.declared.Cycle.{Cycle}
 use Rattle.alu.specs.declared.Flags.{Flags}
+use Rattle.attempt_laws.proofs.Files.{FileInRange, cycle-byte, register-byte, written-in-range}
 use Rattle.choose.proofs.Choice.{pick-all}
-use Rattle.choose.proofs.Table.{below}
-use Rattle.choose.specs.Below.{allBelow}
 use Rattle.choose.specs.Ranged.{pick}
 use Rattle.cycles.specs.Cycles.{operandOf, stepOf, oneCycleOf, oneThenOther, twoCyclesOf}
 use Rattle.cycles.specs.declared.Designators.{Designators}
@@ -24,9 +23,11 @@ use Rattle.execute.specs.Execute.{designators}
 use Rattle.numbers.proofs.Laws.{byte-below}
 use Rattle.numbers.specs.Numbers.{Bytes}
 use Rattle.state.proofs.Laws.{written-length, written-same, written-other}
-use Rattle.state.specs.File.{Leaves, slotOf, highOf, registerOf, writtenOf, gSlot}
-use Rattle.table_laws.specs.Operations.{Result}
-use Rattle.table_laws.specs.Set.{numberIn, Performed}
+use Rattle.state.proofs.Pairs.{high-inverts, two-registers}
+use Rattle.state.specs.File.{Leaves, slotOf, highOf, registerOf, writtenOf}
+use Rattle.state.specs.Pairs.{inverted}
+use Rattle.table_laws.specs.Operations.{Result, Line}
+use Rattle.table_laws.specs.Set.{numberIn, Performed, pairFound}
 use Rattle.table_laws.proofs.Arithmetic.{ofKind, Shows, Same, Joined, byte-same, low-first-joined, high-first-joined}
 
 -- ---- the flags
@@ -109,31 +110,25 @@ operand-below Operand.B p q high hp hq h = hq
 operand-below (Operand.Number n) p q true hp hq h = omega arith
 operand-below (Operand.Number n) p q false hp hq h = omega arith
 
+-- no number, which has a low byte and a high one
+abbrev pub Named : Operand → Type 0
+Named Operand.A = Unit {0}
+Named Operand.B = Unit {0}
+Named (Operand.Number n) = ⊥
+
+operand-named : (o : Operand) (p q : ℕ) (high : Bool) → Named o → operandOf o p q high ≡ chosen o p q
+unfolding operandOf
+operand-named Operand.A p q high h = refl
+operand-named Operand.B p q high h = refl
+operand-named (Operand.Number n) p q high h = absurd h
+
 -- what a plan does to whole numbers
 abbrev pub ofPlan : Plan → ℕ → ℕ → ℕ → Flags → Result
 ofPlan plan h p q f = ofKind (plan .kind) h (chosen (plan .p) p q) (chosen (plan .q) p q) (plan .carry) f
 
--- ---- the places
-
--- a register's place is even where its designator is
-placeOf : ℕ → ℕ → ℕ
-placeOf x y = pick (leb 2 y) (10 + y) (gSlot (x * 2 + y))
-
-slot-parity : (g d : ℕ) → slotOf g d % 2 ≡ d % 2
-unfolding slotOf placeOf
-slot-parity g d =
-    let test : ℕ → ℕ → Bool = λ x y. eqb (placeOf x y % 2) (y % 2) in
-    let t = below 16 (test (g % 8)) (below 8 (λ x. allBelow 16 (test x)) tt (g % 8) (omega arith)) (d % 16) (omega arith) in
-    eqb→eq (placeOf (g % 8) (d % 16) % 2) (d % 16 % 2) t ∙ omega arith
-
--- so low bytes and high bytes are in other places, of one pair and of two
-apart : (g a d : ℕ) → a % 2 ≡ 0 → slotOf g (d + 1) ≡ slotOf g a → d % 2 ≡ 0 → ⊥
-apart g a d even e h = omega (arith, slot-parity g a, slot-parity g (d + 1))
-
--- "A pair is Ra (low) and Ra+1"
-pair-high : (a : ℕ) → a % 2 ≡ 0 → a < 16 → highOf a ≡ a + 1
-unfolding highOf
-pair-high a e h = omega arith
+-- as a line of its own, of no codes
+abbrev pub lineOf : Plan → Line
+lineOf plan = record { first = 1; last = 0; writes = plan .stores; gives = ofPlan plan }
 
 -- ---- the cycles
 
@@ -177,9 +172,33 @@ module _ (g : ℕ) (f : Flags) (plan : Plan) where
   step-leaves xs at carry high d n =
       pick-all (λ (ys : List ℕ). registerOf ys g d ≡ registerOf xs g d) (plan .stores) _ _ (written-other xs g (at .a) _ (slotOf g d) n) refl
 
-  -- two cycles, the second on registers that the first leaves
-  module _ (xs : List ℕ) (size : length xs ≡ 26) (one other : Designators) (high : Bool)
-      (na : slotOf g (other .a) ≡ slotOf g (one .a) → ⊥) (nb : slotOf g (other .b) ≡ slotOf g (one .a) → ⊥) where
+  -- the byte that a cycle leaves is that of the plan's byte form
+  step-file : (xs : List ℕ) (at : Designators) (high : Bool) → Bytes xs
+      → let p = registerOf xs g (at .a) in
+      let q = registerOf xs g (at .b) in
+      operandOf (plan .p) p q high ≡ chosen (plan .p) p q → operandOf (plan .q) p q high ≡ chosen (plan .q) p q → Fits 256 (plan .q)
+      → stepOf xs g f plan at (plan .carry) high .file ≡ pick (plan .stores) (writtenOf xs g (at .a) (ofPlan plan 256 p q f .number)) xs
+  unfolding stepOf
+  step-file xs at high bytes ep eq fq =
+      let p = registerOf xs g (at .a) in
+      let q = registerOf xs g (at .b) in
+      let l = chosen-below (plan .q) p q (register-below g xs bytes (at .a)) (register-below g xs bytes (at .b)) fq in
+      rw (ep, eq, byte-same (plan .kind) (chosen (plan .p) p q) (chosen (plan .q) p q) (plan .carry) f l .number)
+
+  -- and a byte it is
+  step-below : (xs : List ℕ) → length xs ≡ 26 → Bytes xs → (at : Designators) (carry high : Bool) → Fits 65536 (plan .p) → Fits 65536 (plan .q)
+      → (d : ℕ) → registerOf (stepOf xs g f plan at carry high .file) g d < 256
+  unfolding stepOf
+  step-below xs size bytes at carry high fp fq d =
+      let range : FileInRange xs = record { size = size; bytes = byte-below xs bytes } in
+      let p = operand-below (plan .p) _ _ high (register-below g xs bytes (at .a)) (register-below g xs bytes (at .b)) fp in
+      let q = operand-below (plan .q) _ _ high (register-below g xs bytes (at .a)) (register-below g xs bytes (at .b)) fq in
+      pick-all (λ (ys : List ℕ). registerOf ys g d < 256) (plan .stores) _ _
+      (register-byte _ g d (written-in-range xs g (at .a) _ range (cycle-byte (plan .kind) _ _ carry f p q)))
+      (register-below g xs bytes d)
+
+  -- two cycles, the second on another register than the first, which it may read
+  module _ (xs : List ℕ) (size : length xs ≡ 26) (one other : Designators) (high : Bool) (na : slotOf g (other .a) ≡ slotOf g (one .a) → ⊥) where
     abbrev firstStep : Leaves Cycle
     firstStep = stepOf xs g f plan one (plan .carry) high
 
@@ -187,12 +206,12 @@ module _ (g : ℕ) (f : Flags) (plan : Plan) where
     secondStep = stepOf (firstStep .file) g f plan other (firstStep .back .c8) (not high)
 
     second-is : let p = registerOf xs g (other .a) in
-        let q = registerOf xs g (other .b) in
+        let q = registerOf (firstStep .file) g (other .b) in
         secondStep .back ≡ cycleOf (plan .kind) (operandOf (plan .p) p q (not high)) (operandOf (plan .q) p q (not high)) (firstStep .back .c8) f
     second-is =
         step-is (firstStep .file) other (firstStep .back .c8) (not high) _ _
         (step-leaves xs one (plan .carry) high (other .a) na)
-        (step-leaves xs one (plan .carry) high (other .b) nb)
+        refl
 
     first-held : plan .stores ≡ true → registerOf (secondStep .file) g (one .a) ≡ firstStep .back .result
     first-held e =
@@ -204,6 +223,42 @@ module _ (g : ℕ) (f : Flags) (plan : Plan) where
 
     both-unwritten : plan .stores ≡ false → secondStep .file ≡ xs
     both-unwritten e = step-unwritten (firstStep .file) other (firstStep .back .c8) (not high) e ∙ step-unwritten xs one (plan .carry) high e
+
+  -- the two cycles of bytes, as they are found, are the plan of their numbers
+  module _ (p₀ p₁ q₀ q₁ : ℕ) (hp₀ : p₀ < 256) (hp₁ : p₁ < 256) (hq₀ : q₀ < 256) (hq₁ : q₁ < 256)
+      (fp : Fits 65536 (plan .p)) (fq : Fits 65536 (plan .q)) where
+    abbrev byteOf : Operand → Bool → ℕ
+    byteOf o t = operandOf o (pick t p₁ p₀) (pick t q₁ q₀) t
+
+    abbrev cycle : Bool → Bool → Cycle
+    cycle t carry = cycleOf (plan .kind) (byteOf (plan .p) t) (byteOf (plan .q) t) carry f
+
+    byte-of-below : (o : Operand) (t : Bool) → Fits 65536 o → byteOf o t < 256
+    byte-of-below o true = operand-below o p₁ q₁ true hp₁ hq₁
+    byte-of-below o false = operand-below o p₀ q₀ false hp₀ hq₀
+
+    abbrev Both : Cycle → Cycle → Cycle → Type 0
+    Both = Joined (ofPlan plan 65536 (p₀ + 256 * p₁) (q₀ + 256 * q₁) f)
+
+    low-joined : highFirstOf (plan .kind) ≡ false
+        → let first = cycle false (plan .carry) in
+        let second = cycle true (first .c8) in
+        Both first second second
+    low-joined e =
+        rw (operand-word (plan .p) p₀ p₁ q₀ q₁, operand-word (plan .q) p₀ p₁ q₀ q₁) at
+        (low-first-joined (byteOf (plan .p) false) (byteOf (plan .p) true) (byteOf (plan .q) false) (byteOf (plan .q) true) (plan .carry) f
+        (byte-of-below (plan .p) false fp) (byte-of-below (plan .p) true fp) (byte-of-below (plan .q) false fq) (byte-of-below (plan .q) true fq)
+        (plan .kind) e)
+
+    high-joined : highFirstOf (plan .kind) ≡ true
+        → let first = cycle true (plan .carry) in
+        let second = cycle false (first .c8) in
+        Both second first second
+    high-joined e =
+        rw (operand-word (plan .p) p₀ p₁ q₀ q₁, operand-word (plan .q) p₀ p₁ q₀ q₁) at
+        (high-first-joined (byteOf (plan .p) false) (byteOf (plan .p) true) (byteOf (plan .q) false) (byteOf (plan .q) true) (plan .carry) f
+        (byte-of-below (plan .p) false fp) (byte-of-below (plan .p) true fp) (byte-of-below (plan .q) false fq) (byte-of-below (plan .q) true fq)
+        (plan .kind) e)
 
   module _ (xs : List ℕ) (size : length xs ≡ 26) (bytes : Bytes xs) (a b : ℕ) (odd : Bool) where
     pub one-performed : Fits 256 (plan .p) → Fits 256 (plan .q)
@@ -224,70 +279,87 @@ module _ (g : ℕ) (f : Flags) (plan : Plan) where
         refl
         same
 
-    module _ (ea : a % 2 ≡ 0) (eb : b % 2 ≡ 0) (fp : Fits 65536 (plan .p)) (fq : Fits 65536 (plan .q)) where
-      abbrev WordPerformed : Leaves Flags → Type 0
-      WordPerformed m =
-          Performed (ofPlan plan 65536 (numberIn true xs g a) (numberIn true xs g b) f) (plan .stores) true odd g a xs (m .file) f (m .back)
-
+    module _ (fp : Fits 65536 (plan .p)) (fq : Fits 65536 (plan .q)) where
       abbrev low : Designators
       low = designators a b
 
       abbrev high : Designators
-      high = designators (a + 1) (b + 1)
+      high = designators (inverted a) (inverted b)
 
-      abbrev byteOf : Operand → Bool → ℕ
-      byteOf o t = operandOf o (registerOf xs g (pick t (a + 1) a)) (registerOf xs g (pick t (b + 1) b)) t
+      -- the registers after the first cycle, the high byte's or the low one's
+      abbrev left : Bool → List ℕ
+      left t = stepOf xs g f plan (pick t high low) (plan .carry) t .file
 
-      byte-of-below : (o : Operand) (t : Bool) → Fits 65536 o → byteOf o t < 256
-      byte-of-below o t = operand-below o _ _ t (register-below g xs bytes _) (register-below g xs bytes _)
+      -- Rb's pair as the two cycles find it, the high byte first or the low one
+      abbrev found : Bool → ℕ
+      found t =
+          pick t (registerOf (left true) g b + 256 * registerOf xs g (inverted b)) (registerOf xs g b + 256 * registerOf (left false) g (inverted b))
 
-      byte-of-joined : (o : Operand) → byteOf o false + 256 * byteOf o true ≡ chosen o (numberIn true xs g a) (numberIn true xs g b)
-      byte-of-joined o = operand-word o (registerOf xs g a) (registerOf xs g (a + 1)) (registerOf xs g b) (registerOf xs g (b + 1))
+      abbrev WordPerformed : Bool → Leaves Flags → Type 0
+      WordPerformed t m =
+          Performed (ofPlan plan 65536 (numberIn true xs g a) (found t) f) (plan .stores) true odd g a xs (m .file) f (m .back)
 
-      low-first : highFirstOf (plan .kind) ≡ false → WordPerformed (oneThenOther xs g f plan low high false odd)
+      in-xs : (d : ℕ) → registerOf xs g d < 256
+      in-xs = register-below g xs bytes
+
+      in-left : (t : Bool) (d : ℕ) → registerOf (left t) g d < 256
+      in-left t = step-below xs size bytes (pick t high low) (plan .carry) t fp fq
+
+      low-first : highFirstOf (plan .kind) ≡ false → WordPerformed false (oneThenOther xs g f plan low high false odd)
       unfolding afterWordOf
       low-first e =
           let first = stepOf xs g f plan low (plan .carry) false in
           let second = stepOf (first .file) g f plan high (first .back .c8) true in
-          let na : slotOf g (a + 1) ≡ slotOf g a → ⊥ = λ h. apart g a a ea h ea in
-          let nb : slotOf g (b + 1) ≡ slotOf g a → ⊥ = λ h. apart g a b ea h eb in
-          let joined : Joined (ofPlan plan 65536 (numberIn true xs g a) (numberIn true xs g b) f) (first .back) (second .back) (second .back)
-          = rw (second-is xs size low high false na nb, step-is xs low (plan .carry) false _ _ refl refl)
-          (rw (byte-of-joined (plan .p), byte-of-joined (plan .q)) at
-          (low-first-joined (byteOf (plan .p) false) (byteOf (plan .p) true) (byteOf (plan .q) false) (byteOf (plan .q) true) (plan .carry) f
-          (byte-of-below (plan .p) false fp) (byte-of-below (plan .p) true fp) (byte-of-below (plan .q) false fq) (byte-of-below (plan .q) true fq)
-          (plan .kind) e)) in
+          let na = two-registers g a in
+          let joined : Joined (ofPlan plan 65536 (numberIn true xs g a) (found false) f) (first .back) (second .back) (second .back)
+          = rw (second-is xs size low high false na, step-is xs low (plan .carry) false _ _ refl refl)
+          (low-joined _ _ _ _ (in-xs a) (in-xs (inverted a)) (in-xs b) (in-left false (inverted b)) fp fq e) in
           performed _ (plan .stores) true g a xs _ f (second .back) _ _ odd
-          (λ i. ap₂ (λ m n. m + 256 * n) (first-held xs size low high false na nb i) (second-held xs size low high false na nb i))
-          (both-unwritten xs size low high false na nb)
+          (λ i. ap₂ (λ m n. m + 256 * n) (first-held xs size low high false na i) (second-held xs size low high false na i))
+          (both-unwritten xs size low high false na)
           (both-zero (first .back .result) (second .back .result))
           joined
 
       -- "Right shifts go high byte first"
-      high-first : highFirstOf (plan .kind) ≡ true → WordPerformed (oneThenOther xs g f plan high low true odd)
+      high-first : highFirstOf (plan .kind) ≡ true → WordPerformed true (oneThenOther xs g f plan high low true odd)
       unfolding afterWordOf
       high-first e =
           let first = stepOf xs g f plan high (plan .carry) true in
           let second = stepOf (first .file) g f plan low (first .back .c8) false in
-          let na : slotOf g a ≡ slotOf g (a + 1) → ⊥ = λ h. apart g a a ea (sym h) ea in
-          let nb : slotOf g b ≡ slotOf g (a + 1) → ⊥ = λ h. apart g b a eb (sym h) ea in
-          let joined : Joined (ofPlan plan 65536 (numberIn true xs g a) (numberIn true xs g b) f) (second .back) (first .back) (second .back)
-          = rw (second-is xs size high low true na nb, step-is xs high (plan .carry) true _ _ refl refl)
-          (rw (byte-of-joined (plan .p), byte-of-joined (plan .q)) at
-          (high-first-joined (byteOf (plan .p) false) (byteOf (plan .p) true) (byteOf (plan .q) false) (byteOf (plan .q) true) (plan .carry) f
-          (byte-of-below (plan .p) false fp) (byte-of-below (plan .p) true fp) (byte-of-below (plan .q) false fq) (byte-of-below (plan .q) true fq)
-          (plan .kind) e)) in
+          let na : slotOf g a ≡ slotOf g (inverted a) → ⊥ = λ h. two-registers g a (sym h) in
+          let joined : Joined (ofPlan plan 65536 (numberIn true xs g a) (found true) f) (second .back) (first .back) (second .back)
+          = rw (second-is xs size high low true na, step-is xs high (plan .carry) true _ _ refl refl)
+          (high-joined _ _ _ _ (in-xs a) (in-xs (inverted a)) (in-left true b) (in-xs (inverted b)) fp fq e) in
           performed _ (plan .stores) true g a xs _ f (second .back) _ _ odd
-          (λ i. ap₂ (λ m n. m + 256 * n) (second-held xs size high low true na nb i) (first-held xs size high low true na nb i))
-          (both-unwritten xs size high low true na nb)
+          (λ i. ap₂ (λ m n. m + 256 * n) (second-held xs size high low true na i) (first-held xs size high low true na i))
+          (both-unwritten xs size high low true na)
           (and-comm (eqb (first .back .result) 0) (eqb (second .back .result) 0) ∙ both-zero (second .back .result) (first .back .result))
           joined
 
-      pub two-performed : a < 16 → b < 16 → WordPerformed (twoCyclesOf xs g f plan low (designators (highOf a) (highOf b)) odd)
+      pub two-performed : a < 16 → b < 16
+          → WordPerformed (highFirstOf (plan .kind)) (twoCyclesOf xs g f plan low (designators (highOf a) (highOf b)) odd)
       unfolding twoCyclesOf
-      two-performed ha hb = rw (pair-high a ea ha, pair-high b eb hb) (go (highFirstOf (plan .kind)) refl)
+      two-performed ha hb = rw (high-inverts a ha, high-inverts b hb) (go (highFirstOf (plan .kind)) refl)
         where
           go : (t : Bool) → highFirstOf (plan .kind) ≡ t
-              → WordPerformed (pick t (oneThenOther xs g f plan high low true odd) (oneThenOther xs g f plan low high false odd))
+              → WordPerformed t (pick t (oneThenOther xs g f plan high low true odd) (oneThenOther xs g f plan low high false odd))
           go true e = high-first e
           go false e = low-first e
+
+      -- and what they find is by the plan's own byte form
+      found-is : (t : Bool) → Fits 256 (plan .p) → Fits 256 (plan .q) → (t ≡ true → Named (plan .p) × Named (plan .q))
+          → found t ≡ pairFound (lineOf plan) t xs g f b a
+      found-is true p q named =
+          let (np, nq) = named refl in
+          ap (λ ys. registerOf ys g b + 256 * registerOf xs g (inverted b))
+          (step-file xs high true bytes (operand-named (plan .p) _ _ true np) (operand-named (plan .q) _ _ true nq) q)
+      found-is false p q named =
+          ap (λ ys. registerOf xs g b + 256 * registerOf ys g (inverted b))
+          (step-file xs low false bytes (operand-byte (plan .p) _ _ p) (operand-byte (plan .q) _ _ q) q)
+
+      pub pair-performed : Fits 256 (plan .p) → Fits 256 (plan .q) → (highFirstOf (plan .kind) ≡ true → Named (plan .p) × Named (plan .q))
+          → a < 16 → b < 16
+          → let m = twoCyclesOf xs g f plan low (designators (highOf a) (highOf b)) odd in
+          let q = pairFound (lineOf plan) (highFirstOf (plan .kind)) xs g f b a in
+          Performed (ofPlan plan 65536 (numberIn true xs g a) q f) (plan .stores) true odd g a xs (m .file) f (m .back)
+      pair-performed p q named ha hb = rw (← found-is (highFirstOf (plan .kind)) p q named) (two-performed ha hb)

@@ -1,31 +1,30 @@
 -- Only the registers that a word names change: 01's lists of codes beside the table's column, and 01's names beside the places of the file.
 -- Assumes nothing.
-use Prim.Native.Nat.{ℕ, _+_, _%_, _<_}
-use mathlib.Core.Path.{_≡_, refl, ap, sym, _∙_}
-use mathlib.Core.Bool.{Bool, true, false, _&&_, _||_, false≢true}
+use Prim.Native.Nat.{ℕ, _<_}
+use mathlib.Core.Path.{_≡_, refl, ap, _∙_}
+use mathlib.Core.Bool.{Bool, true, false}
 use mathlib.Core.List.{List, [], _∷_}
 use native.Mathlib.Omega.{arith}
 use lib.Dec.{eqb, eqb→eq}
 use lib.ListN.{getD}
-use borrow.Author.Tests.{eqb-false}
 use Rattle.attempt.specs.Attempt.{attemptOf}
-use Rattle.attempt_laws.specs.Fate.{Fate, refused, waited, reset, compute-low, completed}
-use Rattle.attempt_laws.specs.Fate.{odd, oddPair, twoCycle, inputWord, bIn, aIn, takenWord, fateOf}
+use Rattle.attempt_laws.specs.Fate.{bIn, aIn, takenWord}
 use Rattle.choose.proofs.Table.{below}
 use Rattle.choose.specs.Ranged.{pick, ranged}
 use Rattle.code.specs.CodeRows.{classOf, listed, storesOf, rowOf}
 use Rattle.code.specs.Word.{topOf}
 use Rattle.rows.specs.declared.Row.{Row}
+use Rattle.state.proofs.Pairs.{high-inverts, lowest-inverted}
 use Rattle.state.proofs.Registers.{named}
-use Rattle.state.specs.File.{slotOf, highOf}
+use Rattle.state.specs.File.{slotOf}
+use Rattle.state.specs.Pairs.{inverted}
 use Rattle.state.specs.Registers.{nameOf, nameAt}
 use Rattle.state.specs.declared.Core.{Core}
 use Rattle.state.specs.declared.Sample.{Sample}
 use Rattle.table_laws.specs.Registers.{storesBoth, storesRa, storesBy, storedIn, Unnamed}
 use Rattle.table_laws.specs.Set.{storesByte, storesWord}
 use Rattle.table_laws.specs.Table.{comparesOrTests, storedBy, Elsewhere}
-use Rattle.table_laws.proofs.Completes.{word-completes, taken-completes}
-use Rattle.table_laws.proofs.Theorem.{attempt-registers, attempt-idle}
+use Rattle.table_laws.proofs.Theorem.{attempt-registers}
 
 -- ---- the column by 01's lists: a test that antt computes over the codes
 
@@ -42,20 +41,15 @@ unlisted-row : (top : ℕ) → listed (classOf top) ≡ false → rowOf top .sto
 unfolding rowOf
 unlisted-row top e = rw e
 
-module _ (g b a i : ℕ) where
+module _ (g b a i : ℕ) (below-16 : a < 0x10) where
   -- the designators that 01's lists name
   abbrev listing : Bool → Bool → Bool → List ℕ
-  listing word both byte = pick word (a ∷ (a + 1) ∷ []) (pick both (a ∷ b ∷ []) (pick byte (a ∷ []) []))
-
-  -- the place of Ra+1
-  high-place : slotOf g (a + 1) ≡ slotOf g (highOf a)
-  unfolding slotOf highOf
-  high-place = let same : (a % 16 + 1) % 16 % 16 ≡ (a + 1) % 16 = omega arith in rw same
+  listing word both byte = pick word (a ∷ inverted a ∷ []) (pick both (a ∷ b ∷ []) (pick byte (a ∷ []) []))
 
   listed-elsewhere : (word both byte : Bool) → Elsewhere g (listing word both byte) i
       → Elsewhere g (storedBy (pick word 2 (pick both 3 (pick byte 1 0))) b a) i
   unfolding storedBy ranged
-  listed-elsewhere true both byte (n, (m, u)) = (n, ((λ e. m (e ∙ sym high-place)), u))
+  listed-elsewhere true both byte (n, (m, u)) = (n, (rw (high-inverts a below-16) m, u))
   listed-elsewhere false true byte n = n
   listed-elsewhere false false true n = n
   listed-elsewhere false false false n = n
@@ -77,59 +71,28 @@ pub attempt-places : (ws : List ℕ) (rs : List Row) (xs : List ℕ) (k : Core) 
 unfolding storedIn
 attempt-places ws rs xs k s i n =
     let word = takenWord ws k in
-    attempt-registers ws rs xs k s .byte i (elsewhere (k .latches .g) (bIn word) (aIn word) i (topOf word) (omega arith) n)
+    attempt-registers ws rs xs k s .byte i (elsewhere (k .latches .g) (bIn word) (aIn word) i (omega arith) (topOf word) (omega arith) n)
 
 -- ---- in 01's names
-
-no : {A : Type 0} → false ≡ true → A
-no e = absurd (false≢true e)
-
--- a pair that is not refused has an even a
-even-a : (two input stores a b : Bool) → (two || input) && stores ≡ true → (two && (a || b)) || (input && a) ≡ false → a ≡ false
-even-a two input stores false b e f = refl
-even-a true input stores true b e f = no (sym f)
-even-a false true stores true b e f = no (sym f)
-even-a false false stores true b e f = no e
-
--- so Ra+1 of a word that is stored is a designator too: "Refusal 7 tests a and b for the two-cycle codes 82-DF, and a alone for IW and ISW"
-completed-high : (ws : List ℕ) (k : Core) (s : Sample) → fateOf ws k s ≡ completed → storesWord (topOf (takenWord ws k)) ≡ true
-    → aIn (takenWord ws k) + 1 < 0x10
-unfolding oddPair storesWord
-completed-high ws k s e w =
-    let word = takenWord ws k in
-    let pair = word-completes word s (taken-completes ws k s e) .1 in
-    let even = even-a (twoCycle (topOf word)) (inputWord (topOf word)) _ (odd (aIn word)) (odd (bIn word)) w pair in
-    omega (arith, eqb-false (aIn word % 2) 1 even)
 
 module _ (g : ℕ) (range : g < 8) (i : ℕ) where
   -- a register of another name stands at another place
   other-place : (d : ℕ) → d < 0x10 → (nameAt i ≡ nameOf g d → ⊥) → i ≡ slotOf g d → ⊥
   other-place d l n e = n (ap nameAt e ∙ named g d (range, l))
 
-  unnamed-place : (b a : ℕ) → b < 0x10 → a < 0x10 → (word both byte : Bool) → (word ≡ true → a + 1 < 0x10)
-      → Unnamed g (listing g b a i word both byte) (nameAt i) → Elsewhere g (listing g b a i word both byte) i
-  unnamed-place b a m l true both byte h (n, (p, u)) = (other-place a l n, (other-place (a + 1) (h refl) p, u))
-  unnamed-place b a m l false true byte h (n, (p, u)) = (other-place a l n, (other-place b m p, u))
-  unnamed-place b a m l false false true h (n, u) = (other-place a l n, u)
-  unnamed-place b a m l false false false h u = u
+  unnamed-place : (b a : ℕ) → b < 0x10 → (l : a < 0x10) → (word both byte : Bool)
+      → Unnamed g (listing g b a i l word both byte) (nameAt i) → Elsewhere g (listing g b a i l word both byte) i
+  unnamed-place b a m l true both byte (n, (p, u)) = (other-place a l n, (other-place (inverted a) (omega (arith, lowest-inverted a .1)) p, u))
+  unnamed-place b a m l false true byte (n, (p, u)) = (other-place a l n, (other-place b m p, u))
+  unnamed-place b a m l false false true (n, u) = (other-place a l n, u)
+  unnamed-place b a m l false false false u = u
 
 module _ (ws : List ℕ) (rs : List Row) (xs : List ℕ) (k : Core) (s : Sample) (range : k .latches .g < 8) (i : ℕ) where
   -- every register that the word taken at LC doesn't name keeps its byte
   pub attempt-named : Unnamed (k .latches .g) (storedIn (takenWord ws k)) (nameAt i) → getD (attemptOf ws rs xs k s .file) i 0 ≡ getD xs i 0
   unfolding storedIn
-  attempt-named n = go (fateOf ws k s) refl
-    where
-      idle : (fateOf ws k s ≡ completed → ⊥) → getD (attemptOf ws rs xs k s .file) i 0 ≡ getD xs i 0
-      idle h = rw (attempt-idle ws rs xs k s h .0)
-
-      go : (f : Fate) → fateOf ws k s ≡ f → getD (attemptOf ws rs xs k s .file) i 0 ≡ getD xs i 0
-      go (refused r) e = idle (λ q. let z : _≡_ {A = ℕ} 0 1 = cc in omega arith)
-      go waited e = idle (λ q. let z : _≡_ {A = ℕ} 0 1 = cc in omega arith)
-      go reset e = idle (λ q. let z : _≡_ {A = ℕ} 0 1 = cc in omega arith)
-      go compute-low e = idle (λ q. let z : _≡_ {A = ℕ} 0 1 = cc in omega arith)
-      go completed e =
-          let word = takenWord ws k in
-          let code = topOf word in
-          let high = completed-high ws k s e in
-          attempt-places ws rs xs k s i
-          (unnamed-place (k .latches .g) range i (bIn word) (aIn word) (omega arith) (omega arith) (storesWord code) (storesBoth code) (storesRa code) high n)
+  attempt-named n =
+      let word = takenWord ws k in
+      let code = topOf word in
+      attempt-places ws rs xs k s i
+      (unnamed-place (k .latches .g) range i (bIn word) (aIn word) (omega arith) (omega arith) (storesWord code) (storesBoth code) (storesRa code) n)

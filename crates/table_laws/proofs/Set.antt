@@ -1,5 +1,5 @@
 -- What a completed word sets: every line of the operations, CCF and LCF, the word forms of F0-F7, and what sets nothing. Assumes nothing.
-use Prim.Native.Nat.{ℕ, _/_, _%_, _<_, _≤_}
+use Prim.Native.Nat.{ℕ, zero, suc, _/_, _%_, _<_, _≤_}
 use mathlib.Core.Path.{_≡_, refl, ap₂, sym, _∙_}
 use mathlib.Core.Bool.{Bool, true, false, not, _&&_, _||_}
 use mathlib.Core.List.{List}
@@ -18,7 +18,7 @@ use Rattle.attempt.specs.Effect.{jumpedOf, registerEffect, effectOf}
 use Rattle.attempt.specs.declared.Outcome.{Outcome}
 use Rattle.attempt_laws.proofs.Fate.{attempt-fate}
 use Rattle.attempt_laws.specs.Fate.{refused, completed, takenWord, fateOf, EndsAs}
-use Rattle.attempt_laws.specs.Fate.{within, noCode, oddPair, bIn, aIn}
+use Rattle.attempt_laws.specs.Fate.{within, noCode, bIn, aIn}
 use Rattle.choose.proofs.Ranged.{in-arm, in-rest}
 use Rattle.choose.proofs.Table.{below}
 use Rattle.choose.proofs.Tests.{holds}
@@ -40,7 +40,7 @@ use Rattle.state.specs.FlagByte.{nibbleOf, flagByteOf, flagsOf}
 use Rattle.state.specs.Range.{InRange, SampleInRange}
 use Rattle.state.specs.declared.Core.{Core}
 use Rattle.state.specs.declared.Sample.{Sample}
-use Rattle.table_laws.specs.Operations.{Result, sumOf, operations}
+use Rattle.table_laws.specs.Operations.{Result, sumOf, Line, Each, end, _also_, written, logicalOf, operations}
 use Rattle.table_laws.specs.Set.{ConditionHolds, Copied, LcfLoaded, rbAfter, Gained, Gains, setsNothing, Sets, listsWith}
 use Rattle.table_laws.proofs.Arithmetic.{no, Same, byte-same}
 use Rattle.table_laws.proofs.Completes.{word-completes, taken-completes}
@@ -250,11 +250,10 @@ module _ (xs : List ℕ) (k : Core) (s : Sample) (o : Outputs) (word : ℕ) (ran
       let two : eqb (code / 4 % 2) 0 ≡ false = ne-eqb (code / 4 % 2) 0 (λ z. omega arith) in
       gain-sets 2 (omega arith) (omega arith) (omega arith) (omega arith) (rw two)
 
-  sets : SampleInRange s → noCode code ≡ false → oddPair code (bIn word) (aIn word) ≡ false
-      → conditionMet code (k .flags .c) (k .latches .ics) ≡ true → Sets xs k s word executed
-  sets sample listed even met =
+  sets : SampleInRange s → noCode code ≡ false → conditionMet code (k .flags .c) (k .latches .ics) ≡ true → Sets xs k s word executed
+  sets sample listed met =
       record {
-        operation = lines xs k s o word range listed even met sample;
+        operation = lines xs k s o word range listed met sample;
         ccf = ccf-sets;
         lcf = lcf-sets;
         gain-one = gain-one-sets;
@@ -276,11 +275,22 @@ pub attempt-sets : (ws : List ℕ) (rs : List Row) (xs : List ℕ) (k : Core) (s
 attempt-sets ws rs xs k s range sample completes holding =
     let word = takenWord ws k in
     let o = outputsOf ws rs k s in
-    let (listed, even) = word-completes word s (taken-completes ws k s completes) in
+    let listed = word-completes word s (taken-completes ws k s completes) in
     let met = condition-holds (k .flags .c) (k .latches .ics) (topOf word) (omega arith) holding in
-    ends-sets word xs k s o (attemptOf ws rs xs k s) (rw completes at (attempt-fate ws rs xs k s)) (sets xs k s o word range sample listed even met)
+    ends-sets word xs k s o (attemptOf ws rs xs k s) (rw completes at (attempt-fate ws rs xs k s)) (sets xs k s o word range sample listed met)
 
 -- and the lists leave out no code that is not refused, and have none twice
 pub every-code : (code : ℕ) → code < 0x100 → noCode code ≡ false → listsWith code ≡ 1
 unfolding noCode setsNothing
 every-code code h l = eqb→eq (listsWith code) 1 (rw l at (below 0x100 (λ x. pick (noCode x) true (eqb (listsWith x) 1)) tt code h))
+
+-- ---- one line of them
+
+abbrev pub noLine : Line
+noLine = written 0 0 (λ h p q f. logicalOf h p f)
+
+-- what holds of each line holds of line i
+pub each-at : {P : Line → Type 0} {ls : List Line} → Each P ls → (i : ℕ) → i < length ls → P (getD ls i noLine)
+each-at end i h = absurd (omega arith)
+each-at (p also ps) zero h = p
+each-at (p also ps) (suc i) h = each-at ps i (omega arith)

@@ -1,8 +1,8 @@
--- What the columns `cycles`, `class`, `pairs`, `options` and `waits` of the table say of an attempt.
+-- What the columns `cycles`, `class`, `options` and `waits` of the table say of an attempt.
 use Prim.Native.Nat.{ℕ}
 use mathlib.Core.Bool.{Bool, not, _&&_, _||_}
 use lib.Dec.{eqb, ltb}
-use Rattle.attempt_laws.specs.Fate.{Fate, refused, waited, reset, compute-low, completed, odd, bIn, aIn}
+use Rattle.attempt_laws.specs.Fate.{Fate, refused, waited, reset, compute-low, completed, bIn}
 use Rattle.choose.specs.Ranged.{pick}
 use Rattle.code.specs.CodeRows.{listed}
 use Rattle.code.specs.Word.{topOf}
@@ -18,19 +18,14 @@ costOf row reset = 1
 costOf row compute-low = 1
 costOf row completed = row .cycles
 
--- `pairs` is 3 where a and b have to be even, and 1 where a has
-abbrev pub oddBy : CodeRow → ℕ → ℕ → Bool
-oddBy row b a = (eqb (row .pairs) 3 && (odd a || odd b)) || (eqb (row .pairs) 1 && odd a)
-
 -- `waits` is 1 where REPLY or BUSY holds the word, and 2 where REPLY low does
 abbrev pub waitsBy : CodeRow → Bool → Bool → Bool
 waitsBy row reply busy = (eqb (row .waits) 1 && (reply || busy)) || (eqb (row .waits) 2 && not reply)
 
--- the fate of a word that has this row: 6, "code unlisted, or AC"; 7, "odd designator where a pair is needed"; 8, "option not listed", b over `options`
+-- the fate of a word that has this row: 6, "code unlisted, or AC"; 8, "option not listed", b over `options`
 unfoldable pub rowFate : CodeRow → ℕ → Sample → Fate
 rowFate row word s =
     pick (not (listed (row .class)) || eqb (topOf word) 0xAC) (refused 6)
-    (pick (oddBy row (bIn word) (aIn word)) (refused 7)
     (pick (ltb (row .options) (bIn word)) (refused 8)
     (pick (waitsBy row (s .reply) (s .busy)) waited
-    completed)))
+    completed))

@@ -1,5 +1,5 @@
 -- Which registers a word writes, by 01's own lists of codes and its own names of the registers: they use none of the engine's tables.
-use Prim.Native.Nat.{ℕ, _+_}
+use Prim.Native.Nat.{ℕ}
 use mathlib.Core.Path.{_≡_}
 use mathlib.Core.Bool.{Bool, _||_}
 use mathlib.Core.List.{List, [], _∷_}
@@ -7,6 +7,7 @@ use lib.Dec.{eqb}
 use Rattle.attempt_laws.specs.Fate.{within, bIn, aIn}
 use Rattle.choose.specs.Ranged.{pick}
 use Rattle.code.specs.Word.{topOf}
+use Rattle.state.specs.Pairs.{inverted}
 use Rattle.state.specs.Registers.{Register, nameOf}
 use Rattle.table_laws.specs.Set.{storesByte, storesWord}
 
@@ -18,16 +19,17 @@ storesBoth code = within 0xF2 0xF3 code || within 0xF6 0xF7 code
 unfoldable pub storesRa : ℕ → Bool
 storesRa code = storesByte code || eqb code 0x72
 
--- what the table's column has to be by these lists: 2 Ra and Ra+1, 3 Ra and Rb, 1 Ra, 0 none
+-- what the table's column has to be by these lists: 2 Ra's pair, 3 Ra and Rb, 1 Ra, 0 none
 unfoldable pub storesBy : ℕ → ℕ
 storesBy code = pick (storesWord code) 2 (pick (storesBoth code) 3 (pick (storesRa code) 1 0))
 
--- the designators of the registers that a word may write: "A pair is Ra (low) and Ra+1"; Ra and Rb; Ra; else none
+-- the designators of the registers that a word may write: Ra's pair, 02, L6: "the high byte's designator is the low one's with its lowest bit inverted";
+-- Ra and Rb; Ra; else none
 unfoldable pub storedIn : ℕ → List ℕ
 storedIn word =
     let code = topOf word in
     let a = aIn word in
-    pick (storesWord code) (a ∷ (a + 1) ∷ [])
+    pick (storesWord code) (a ∷ inverted a ∷ [])
     (pick (storesBoth code) (a ∷ bIn word ∷ [])
     (pick (storesRa code) (a ∷ []) []))
 

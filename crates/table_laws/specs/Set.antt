@@ -11,7 +11,8 @@ use Rattle.attempt.specs.declared.Outcome.{Outcome}
 use Rattle.attempt_laws.specs.Fate.{within, odd, twoCycle, inputWord, bIn, aIn, takenWord}
 use Rattle.choose.specs.Ranged.{bit, pick}
 use Rattle.code.specs.Word.{topOf}
-use Rattle.state.specs.File.{Leaves, slotOf, registerOf}
+use Rattle.state.specs.File.{Leaves, slotOf, registerOf, writtenOf}
+use Rattle.state.specs.Pairs.{inverted}
 use Rattle.state.specs.declared.Core.{Core}
 use Rattle.state.specs.declared.Sample.{Sample}
 use Rattle.table_laws.specs.Operations.{Result, sumOf, Line, Each, operations, linesWith}
@@ -51,9 +52,9 @@ storesByte code =
 
 -- ---- a result, in the registers and the flags
 
--- a register's number, or a pair's: "A pair is Ra (low) and Ra+1"
+-- a register's number, or a pair's: 02, L6, "the high byte's designator is the low one's with its lowest bit inverted"
 abbrev pub numberIn : Bool → List ℕ → ℕ → ℕ → ℕ
-numberIn word xs g d = pick word (registerOf xs g d + 256 * registerOf xs g (d + 1)) (registerOf xs g d)
+numberIn word xs g d = pick word (registerOf xs g d + 256 * registerOf xs g (inverted d)) (registerOf xs g d)
 
 abbrev pub rangeOf : Bool → ℕ
 rangeOf word = pick word 0x1_0000 0x100
@@ -80,20 +81,38 @@ inputByte dal m b =
     let lower = dal % 256 in
     getD (upper ∷ lower ∷ pick (odd m) upper lower ∷ pick (odd m) lower upper ∷ []) (b % 4) 0
 
--- the operand beside Ra: bits 11-4 of a literal, 20-6F; what an input, E0-E7, takes; else Rb, or its pair
-abbrev pub otherOf : List ℕ → Core → Sample → ℕ → ℕ
-otherOf xs k s word =
+-- the registers after one cycle of a line, on those that a and b name: it is the line's byte form
+abbrev pub afterCycle : Line → List ℕ → ℕ → Flags → ℕ → ℕ → List ℕ
+afterCycle line xs g f b a =
+    pick (line .writes) (writtenOf xs g a (line .gives 0x100 (registerOf xs g a) (registerOf xs g b) f .number)) xs
+
+-- Rb's pair as the cycles find it, 02, L6: "Cycles run in the order of 01, each reading what the one before it wrote". The first finds its byte in xs,
+-- the second in what the first left: another byte only where the pairs overlap crosswise and the first cycle wrote. "Right shifts go high byte first"
+abbrev pub pairFound : Line → Bool → List ℕ → ℕ → Flags → ℕ → ℕ → ℕ
+pairFound line highFirst xs g f b a =
+    pick highFirst
+    (registerOf (afterCycle line xs g f (inverted b) (inverted a)) g b + 256 * registerOf xs g (inverted b))
+    (registerOf xs g b + 256 * registerOf (afterCycle line xs g f b a) g (inverted b))
+
+-- SRBC, SRWC, SRB and SRW
+abbrev pub shiftsRight : ℕ → Bool
+shiftsRight code = within 0xD8 0xDF code
+
+-- the operand beside Ra: bits 11-4 of a literal, 20-6F; what an input, E0-E7, takes; else Rb, or its pair as the cycles find it
+abbrev pub otherOf : Line → List ℕ → Core → Sample → ℕ → ℕ
+otherOf line xs k s word =
     let code = topOf word in
+    let g = k .latches .g in
     pick (within 0x20 0x6F code) (word / 0x10 % 0x100)
     (pick (within 0xE0 0xE7 code) (pick (wordCode code) (s .dal) (inputByte (s .dal) (k .bus .m) (bIn word)))
-    (numberIn (wordCode code) xs (k .latches .g) (bIn word)))
+    (pick (wordCode code) (pairFound line (shiftsRight code) xs g (k .flags) (bIn word) (aIn word)) (registerOf xs g (bIn word))))
 
 -- where the word's code is one of the line's, the attempt leaves what the line gives; "by G before the attempt"
 pub record Performs (xs : List ℕ) (k : Core) (s : Sample) (word : ℕ) (e : Leaves Outcome) (line : Line) : Type 0 where
   pub performed : let code = topOf word in
       let g = k .latches .g in
       let p = numberIn (wordCode code) xs g (aIn word) in
-      let r = line .gives (rangeOf (wordCode code)) p (otherOf xs k s word) (k .flags) in
+      let r = line .gives (rangeOf (wordCode code)) p (otherOf line xs k s word) (k .flags) in
       within (line .first) (line .last) code ≡ true
       → Performed r (line .writes) (wordCode code) (oddCode code) g (aIn word) xs (e .file) (k .flags) (e .back .core .flags)
 

@@ -16,7 +16,7 @@ use Rattle.state.specs.declared.Core.{Core}
 
 -- ---- registers
 
--- the designators that `stores` names, of a word's own two: none; a; a and a+1; a and b
+-- the designators that `stores` names, of a word's own two: none; a; a and the designator of its high byte; a and b
 unfoldable pub storedBy : ℕ → ℕ → ℕ → List ℕ
 storedBy stores b a = ranged stores ((1, []) ∷ (2, a ∷ []) ∷ (3, a ∷ highOf a ∷ []) ∷ []) (a ∷ b ∷ [])
 

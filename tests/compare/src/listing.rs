@@ -92,6 +92,11 @@ pub fn any_key(top: u8) -> String {
     key(top).unwrap_or_else(|| format!("{top:02X}-unlisted"))
 }
 
+/// Whether a code works on the pairs of a and b: the listed two-cycle codes 82-DF.
+pub fn pairs(top: u8) -> bool {
+    matches!(top, 0x82..=0xDF) && top & 2 != 0 && mnemonic(top).is_some()
+}
+
 /// When a code waits.
 #[derive(Clone, Copy, PartialEq, Eq)]
 pub enum Waits {

@@ -76,5 +76,20 @@ fn missing(vectors: &[Vector]) -> usize {
             missing += 1;
         }
     }
+    missing + without_crosswise(vectors)
+}
+
+/// Counts and tells the codes with two pairs that no vector has crosswise, with a even and with a odd.
+fn without_crosswise(vectors: &[Vector]) -> usize {
+    let mut missing = 0;
+    for top in (0..=255).filter(|&top| listing::pairs(top)) {
+        for a in [2, 3] {
+            let word = u32::from(top) << 8 | (a ^ 1) << 4 | a;
+            if !vectors.iter().any(|vector| vector.word == word) {
+                println!("{top:02X}: no crosswise vector with a {a}");
+                missing += 1;
+            }
+        }
+    }
     missing
 }

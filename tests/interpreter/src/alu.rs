@@ -1,7 +1,8 @@
 //! Arithmetic on bytes (`BITS` 8) and words (`BITS` 16).
 //!
 //! Each function gives its result and the flag byte that an odd code sets. A word is worked out in
-//! one step; its flags are those of the second of the two cycles.
+//! one step; its flags are those of the second of the two cycles. The byte of the first cycle never
+//! depends on the operands' other bytes.
 
 pub(crate) const N: u8 = 0x80;
 pub(crate) const Z: u8 = 0x40;

@@ -16,7 +16,7 @@ pub enum Outcome {
         /// What it cost.
         microcycles: u32,
     },
-    /// It is refused with number 5, 6, 7 or 8, and the state is as it was.
+    /// It is refused with number 5, 6 or 8, and the state is as it was.
     Refused(u8),
 }
 
@@ -41,9 +41,6 @@ pub fn attempt(words: &[u32], rows: &[Row], state: &mut State, sample: Sample) -
     let code = CODES[usize::from((word >> 8) as u8)];
     if code.cycles == 0 {
         return Outcome::Refused(6);
-    }
-    if word as u8 & code.odd != 0 {
-        return Outcome::Refused(7);
     }
     if word as u8 & code.options != 0 {
         return Outcome::Refused(8);

@@ -5,8 +5,6 @@
 pub(crate) struct Code {
     /// Microcycles when executed; 0 for a code that is refused, unlisted or AC.
     pub(crate) cycles: u8,
-    /// Bits of the word that are clear where a pair is needed (refusal 7).
-    pub(crate) odd: u8,
     /// Bits of the word that are clear in every listed option (refusal 8).
     pub(crate) options: u8,
     /// When the code waits.
@@ -45,11 +43,6 @@ const fn code(top: u8) -> Code {
             0x00..=0x1F => 2,
             0x20..=0x77 | 0xF8..=0xFF => 1,
             _ => 1 + word as u8,
-        },
-        odd: match top {
-            0x80..=0xDF if word => 0x11,
-            0xE2 | 0xE3 | 0xE6 | 0xE7 => 0x01,
-            _ => 0,
         },
         options: match top {
             0xE0..=0xE3 => 0x80,

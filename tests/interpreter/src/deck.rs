@@ -39,7 +39,7 @@ struct Sections<'a> {
 /// Runs a deck: one attempt for each sample until all are used or one is refused.
 ///
 /// The request of attempt `i` is written at place `i` of `requests`, four bytes low first. After
-/// answers 0 and 5-8 `state` holds the state; after 1-4 and 9 both buffers are untouched.
+/// answers 0, 5, 6 and 8 `state` holds the state; after 1-4 and 9 both buffers are untouched.
 pub fn run(deck: &[u8], requests: &mut [u8], state: &mut [u8]) -> Report {
     let mut report = Report {
         answer: 0,

@@ -3,7 +3,7 @@
 use crate::alu::{add, complement, logical, shift_left, shift_right, subtract};
 use crate::alu::{C, C8, N, NB, STATUS, V, Z, ZB};
 use crate::sample::Sample;
-use crate::state::State;
+use crate::state::{high, State};
 
 /// Bit 16 of a word.
 pub(crate) const LOAD_RR: u32 = 1 << 16;
@@ -118,7 +118,11 @@ fn register(word: u32, state: &mut State) {
         flags
     } else {
         let (ra, rb) = (state.pair(a).into(), state.pair(b).into());
-        let (value, flags) = operate::<16>(word, ra, rb, state);
+        let (value, flags) = if a == high(b) {
+            crosswise(word, ra, rb, state)
+        } else {
+            operate::<16>(word, ra, rb, state)
+        };
         state.set_pair(a, value as u16);
         flags
     };
@@ -167,6 +171,18 @@ fn operate<const BITS: u32>(word: u32, ra: u32, rb: u32, state: &State) -> (u32,
         23 => shift_right::<BITS>(rb, 0),
         _ => (ra, flags),
     }
+}
+
+/// The same where the pairs are of the same two registers, each one's low byte the other's high one:
+/// the second cycle reads in Rb what the first wrote. Where nothing is written, that is Rb as it was.
+fn crosswise(word: u32, ra: u32, rb: u32, state: &State) -> (u32, u8) {
+    let (first, _) = operate::<16>(word, ra, rb, state);
+    let rb = match word >> 10 & 31 {
+        // Right shifts, whose first cycle is that of the high byte.
+        22 | 23 => rb & 0xFF00 | first >> 8,
+        _ => first << 8 & 0xFF00 | rb & 0x00FF,
+    };
+    operate::<16>(word, ra, rb, state)
 }
 
 /// E0-E7: IB, IW, ISB, ISW.

@@ -28,6 +28,13 @@ pub fn place(designator: u8, g: u8) -> usize {
     usize::from(FILE[usize::from(g & 7)][usize::from(designator & 15)])
 }
 
+/// Where the high byte lies of the pair whose low byte is at this place. Its designator is the low
+/// one's with the lowest bit inverted; even designators lie at even places, odd ones behind them.
+#[inline]
+pub(crate) fn high(place: usize) -> usize {
+    place ^ 1
+}
+
 /// The state, always in range: G, TSR and I4-I6 are 0-7, LC and RR 0-2047, the outputs 0-15.
 #[derive(Clone, Debug, PartialEq, Eq)]
 pub struct State {
@@ -119,15 +126,13 @@ impl State {
     /// The pair whose low byte is at this place.
     #[inline]
     pub(crate) fn pair(&self, place: usize) -> u16 {
-        u16::from_le_bytes([self.registers[place], self.registers[place + 1]])
+        u16::from_le_bytes([self.registers[place], self.registers[high(place)]])
     }
 
     /// Writes the pair whose low byte is at this place.
     #[inline]
     pub(crate) fn set_pair(&mut self, place: usize, value: u16) {
-        let [low, high] = value.to_le_bytes();
-        self.registers[place] = low;
-        self.registers[place + 1] = high;
+        [self.registers[place], self.registers[high(place)]] = value.to_le_bytes();
     }
 
     /// Sets the flags in the mask and keeps the others.

@@ -80,8 +80,10 @@ mod checked_by_hand {
     #[test]
     fn refused_and_executed_words() {
         let outcome = |word| step(word, &mut blank());
-        assert_eq!(outcome(0xA232), Outcome::Refused(7));
-        assert_eq!(outcome(0xA222), done(0, 0, 2));
+        // As 02, L6 has A232.
+        for word in [0xA232, 0xA222] {
+            assert_eq!(outcome(word), done(0, 0, 2));
+        }
         for word in [0x7800, 0xAD32, 0xAC22] {
             assert_eq!(outcome(word), Outcome::Refused(6));
         }
@@ -250,7 +252,7 @@ mod attempts {
 
     #[test]
     fn refusals_leave_the_state() {
-        for (word, number) in [(0x7800, 6), (0xA212, 7), (0xE382, 8)] {
+        for (word, number) in [(0x7800, 6), (0xE382, 8)] {
             let mut state = State {
                 modification: Some(0),
                 ..busy_state()
@@ -266,20 +268,17 @@ mod attempts {
     }
 
     #[test]
-    fn refusal_7_comes_before_8_and_both_before_waiting() {
+    fn refusal_8_comes_before_waiting_whatever_a_is() {
         let outcome = |word| step(word, &mut blank());
-        assert_eq!(outcome(0xE283), Outcome::Refused(7));
-        assert_eq!(outcome(0xE282), Outcome::Refused(8));
-        assert_eq!(outcome(0xE272), done(10, 0, 1));
-        assert_eq!(outcome(0xE083), Outcome::Refused(8));
-        assert_eq!(outcome(0xE6F3), Outcome::Refused(7));
-        assert_eq!(outcome(0xE6F2), done(9, 0, 2));
-        // Compares, tests, moves and failed conditions; LTR and F2 need no pair.
-        for word in [0xB612, 0xC621, 0x8223, 0x8632, 0xAE12, 0xDE21] {
-            assert_eq!(outcome(word), Outcome::Refused(7));
+        for word in [0xE282, 0xE283, 0xE083, 0xE443] {
+            assert_eq!(outcome(word), Outcome::Refused(8));
         }
-        assert_eq!(outcome(0xEE33), done(0, 0, 2));
-        assert_eq!(outcome(0xF233), done(1, 0, 2));
+        for word in [0xE272, 0xE273, 0xE073] {
+            assert_eq!(outcome(word), done(10, 0, 1));
+        }
+        for word in [0xE6F2, 0xE6F3] {
+            assert_eq!(outcome(word), done(9, 0, 2));
+        }
     }
 
     #[test]
@@ -314,10 +313,10 @@ mod attempts {
 
     #[test]
     fn the_modification_decides_refusals_waiting_and_execution() {
-        // A132 under 0200 hex is AW, and 3 is odd.
-        let mut state = modified(0x0200);
-        assert_eq!(step(0xA132, &mut state), Outcome::Refused(7));
-        assert_eq!(state.modification, Some(0x0200));
+        // E072 under 0080 hex has option F.
+        let mut state = modified(0x0080);
+        assert_eq!(step(0xE072, &mut state), Outcome::Refused(8));
+        assert_eq!(state.modification, Some(0x0080));
         // LL 0 to R2 under 0550 hex is LL 55 to R2; then it is used up.
         let mut state = modified(0x0550);
         assert_eq!(step(0x6002, &mut state), done(0, 0, 1));
@@ -597,6 +596,146 @@ mod flags {
         assert_eq!(words(0x9342, 9, 0x7FFF, 0), (0x8000, N | V | NB | C4));
         assert_eq!(words(0x9B42, 9, 0x0001, 0), (0xFFFF, N | C | NB));
         assert_eq!(words(0x9B42, 9, 0x8000, 0).1 & (V | C), V | C);
+    }
+}
+
+/// 02, L6: the high byte's designator is the low one's with its lowest bit inverted, and each cycle
+/// reads what the one before it wrote.
+mod odd_pairs {
+    use super::*;
+
+    /// R2, R3 and the flag byte after a word on pairs of these two registers.
+    fn crosswise(word: u32, r2: u8, r3: u8, flags: u8) -> (u8, u8, u8) {
+        let mut state = blank();
+        (state.registers[r(2)], state.registers[r(3)]) = (r2, r3);
+        state.flags = flags;
+        assert_eq!(step(word, &mut state), done(0, 0, 2));
+        (state.registers[r(2)], state.registers[r(3)], state.flags)
+    }
+
+    #[test]
+    fn the_high_byte_of_an_odd_pair_is_below() {
+        // R2:R3 and R4:R5, 01FF and 0001.
+        let mut state = blank();
+        state.registers[r(2)..r(6)].copy_from_slice(&[0x01, 0xFF, 0x00, 0x01]);
+        assert_eq!(step(0xA353, &mut state), done(0, 0, 2));
+        assert_eq!(state.registers[r(2)..r(6)], [0x02, 0x00, 0x00, 0x01]);
+        assert_eq!(state.flags, 0);
+        // R5:R4 to R2:R3.
+        state.registers[r(2)..r(6)].copy_from_slice(&[0x55, 0xAA, 0x34, 0x12]);
+        state.lc = 0;
+        assert_eq!(step(0x8243, &mut state), done(0, 0, 2));
+        assert_eq!(state.registers[r(2)..r(6)], [0x12, 0x34, 0x34, 0x12]);
+    }
+
+    #[test]
+    fn a_crosswise_move_leaves_one_byte_in_both() {
+        assert_eq!(crosswise(0x8332, 0x12, 0x80, C), (0x80, 0x80, N | C | NB));
+        assert_eq!(crosswise(0x8323, 0x12, 0x80, V), (0x12, 0x12, 0));
+        assert_eq!(crosswise(0x8332, 0x12, 0x00, 0), (0, 0, Z | ZB));
+    }
+
+    #[test]
+    fn crosswise_adds_and_subtracts() {
+        // F0+20 is 10 and a carry; 20+10+1 is 31.
+        assert_eq!(crosswise(0xA332, 0xF0, 0x20, 0), (0x10, 0x31, 0));
+        // 20+F0 is 10 and a carry; F0+10+1 is 01 and a carry.
+        assert_eq!(crosswise(0xA323, 0xF0, 0x20, 0), (0x01, 0x10, C | C8));
+        // 05-03 is 02; 03-02 is 01.
+        assert_eq!(crosswise(0xB332, 0x05, 0x03, 0), (0x02, 0x01, C4 | C8));
+        // 03-05 is FE and a borrow; 05-FE-1 is 06 and a borrow.
+        assert_eq!(crosswise(0xB332, 0x03, 0x05, 0), (0xFE, 0x06, C));
+    }
+
+    #[test]
+    fn zero_is_seen_in_the_results_not_in_what_stays() {
+        // FF+01 is 00 and a carry; 01+00+1 is 02.
+        assert_eq!(crosswise(0xA332, 0xFF, 0x01, 0), (0x00, 0x02, 0));
+        // 55-55 is 00; 55-00 is 55.
+        assert_eq!(crosswise(0xB332, 0x55, 0x55, 0), (0x00, 0x55, C4 | C8));
+        // 80 gives 00 and a bit; 00 with it gives 01.
+        assert_eq!(crosswise(0x8F32, 0x55, 0x80, 0), (0x00, 0x01, 0));
+    }
+
+    #[test]
+    fn crosswise_left_shifts() {
+        // C1 gives 82 and a bit; 82 with it gives 05 and a bit.
+        assert_eq!(crosswise(0x8F32, 0x55, 0xC1, 0), (0x82, 0x05, V | C | C8));
+        // 40 with C gives 81, and that 02 and a bit.
+        assert_eq!(crosswise(0x8B23, 0x40, 0x55, C), (0x02, 0x81, V | C | C8));
+    }
+
+    #[test]
+    fn crosswise_right_shifts_begin_with_the_high_designator() {
+        // R3 from R2: 03 gives 01 and a bit; R2 from R3: 01 with it gives 80 and a bit.
+        let flags = N | C | NB | C8;
+        assert_eq!(crosswise(0xDF32, 0x03, 0x55, 0), (0x80, 0x01, flags));
+        // R2 from R3: 04 with C gives 82; R3 from R2: 41.
+        assert_eq!(crosswise(0xDB23, 0x55, 0x04, C), (0x82, 0x41, 0));
+    }
+
+    #[test]
+    fn compares_tests_and_failed_conditions_write_nothing() {
+        // 01-02 is FF and a borrow; 02-01-1 is 00.
+        assert_eq!(crosswise(0xB732, 0x01, 0x02, 0), (0x01, 0x02, C4 | C8));
+        // 05-03 is 02; 03-05 is FE and a borrow.
+        assert_eq!(crosswise(0xB723, 0x03, 0x05, 0), (0x03, 0x05, N | C | NB));
+        assert_eq!(crosswise(0xC732, 0x01, 0x02, V), (0x01, 0x02, Z | ZB));
+        for word in [0x8732, 0xA723, 0xAF33] {
+            assert_eq!(crosswise(word, 0x12, 0x34, Z | V), (0x12, 0x34, Z | V));
+        }
+    }
+
+    #[test]
+    fn through_g() {
+        // a, b, G, and the places of Ra and Rb, each the other's high byte.
+        for (designators, g, a, b) in [
+            (0x01, 2, 5, 4),
+            (0x10, 2, 4, 5),
+            (0xD0, 6, r(0xC), r(0xD)),
+            (0xC1, 6, r(0xD), r(0xC)),
+            (0x1C, 6, r(0xC), r(0xD)),
+            (0x0F, 7, r(0xF), r(0xE)),
+            (0xE1, 7, r(0xF), r(0xE)),
+        ] {
+            let mut state = State { g, ..blank() };
+            (state.registers[a], state.registers[b]) = (0xF0, 0x20);
+            step(0xA300 | designators, &mut state);
+            let got = [state.registers[a], state.registers[b]];
+            assert_eq!((got, state.flags), ([0x10, 0x31], 0), "{designators:X}");
+        }
+        // With G 5 designator 0 is GA: no overlap with RD.
+        let mut state = State { g: 5, ..blank() };
+        state.registers[0xA..0xC].copy_from_slice(&[0xF0, 0x00]);
+        state.registers[r(0xC)..r(0xE)].copy_from_slice(&[0x02, 0x20]);
+        step(0xA3D0, &mut state);
+        assert_eq!(state.registers[0xA..0xC], [0x10, 0x03]);
+    }
+
+    #[test]
+    fn inputs() {
+        let after = |word, g| {
+            let mut state = State { g, ..blank() };
+            with(word, &[], &mut state, reply(0x8150));
+            assert_eq!(state.flags, N | NB);
+            state.registers
+        };
+        assert_eq!(after(0xE303, 0)[r(2)..r(4)], [0x81, 0x50]);
+        assert_eq!(after(0xE7F5, 0)[r(4)..r(6)], [0x81, 0x50]);
+        assert_eq!(after(0xE301, 3)[6..8], [0x81, 0x50]);
+        // The pair is named by the G before, not by the one loaded.
+        assert_eq!(after(0xE311, 7)[r(0xE)..], [0x81, 0x50]);
+    }
+
+    #[test]
+    fn ltr_and_the_f_codes_have_no_pairs() {
+        let mut state = blank();
+        (state.registers[r(3)], state.registers[r(5)]) = (0xFF, 0x12);
+        assert_eq!(step(0xEE53, &mut state), done(0, 0, 2));
+        assert_eq!(state.tr, 0x12FF);
+        state.lc = 0;
+        assert_eq!(step(0xF253, &mut state), done(1, 0x12FF, 2));
+        assert_eq!(state.registers[r(2)..r(6)], [0, 0x00, 0, 0x13]);
     }
 }
 

@@ -115,9 +115,11 @@ fn flags(before: u8, odd: bool, last: Cycle, carries: Carries, zero: bool) -> u8
     all.fold(0, |byte, flag| byte * 2 + u8::from(flag))
 }
 
-/// R3:R2 and the flag byte that code `top` leaves with a 2 and b 4.
-fn expected(top: u32, ra: [u8; 2], rb: [u8; 2], before: u8, ics: bool) -> ([u8; 2], u8) {
-    let (group, word, odd) = (top & 0xFC, top & 2 != 0, top & 1 != 0);
+/// R2-R5 and the flag byte that a word leaves whose designators are among them. Each cycle reads
+/// what the one before it wrote.
+fn expected(word: u32, mut file: [u8; 4], before: u8, ics: bool) -> ([u8; 4], u8) {
+    let (top, b, a) = (word >> 8, word >> 4 & 15, word & 15);
+    let (group, two, odd) = (top & 0xFC, top & 2 != 0, top & 1 != 0);
     let c = before & 0x10 != 0;
     let failed = match group {
         0x84 | 0xA4 => !c,
@@ -125,74 +127,75 @@ fn expected(top: u32, ra: [u8; 2], rb: [u8; 2], before: u8, ics: bool) -> ([u8; 
         _ => false,
     };
     if failed {
-        return (ra, before);
+        return (file, before);
     }
-    let order: &[usize] = match (word, group) {
+    // The low byte has the word's designators, the high byte those with the lowest bit inverted.
+    let order: &[u32] = match (two, group) {
         (false, _) => &[0],
         (true, 0xD8 | 0xDC) => &[1, 0],
         (true, _) => &[0, 1],
     };
-    let (mut result, mut zero, mut c8) = (ra, true, false);
-    let mut last = None;
-    for (count, &at) in order.iter().enumerate() {
-        let (done, carries) = cycle(group, ra[at], rb[at], count == 0, c, c8);
-        result[at] = done.value;
+    let (mut zero, mut c8, mut last) = (true, false, None);
+    for (count, inverted) in order.iter().enumerate() {
+        let [ra, rb] = [a, b].map(|designator| (designator ^ inverted) as usize - 2);
+        let (done, carries) = cycle(group, file[ra], file[rb], count == 0, c, c8);
+        if !matches!(group, 0xB4 | 0xC4) {
+            file[ra] = done.value;
+        }
         zero &= done.value == 0;
         c8 = done.c8;
         last = Some((done, carries));
     }
     let (last, carries) = last.unwrap();
-    let stored = if matches!(group, 0xB4 | 0xC4) {
-        ra
-    } else {
-        result
-    };
-    (stored, flags(before, odd, last, carries, zero))
+    (file, flags(before, odd, last, carries, zero))
 }
 
-/// Compares one code on one pair of operands.
-fn check(top: u32, ra: [u8; 2], rb: [u8; 2], before: u8, ics: bool) {
+/// Compares one word of 80-DF with R2-R5 being these.
+fn check(word: u32, file: [u8; 4], before: u8, ics: bool) {
     let mut state = State {
         flags: before,
         ics,
         ..blank()
     };
-    state.registers[r(2)..r(4)].copy_from_slice(&ra);
-    state.registers[r(4)..r(6)].copy_from_slice(&rb);
-    let cycles = if top & 2 == 0 { 1 } else { 2 };
-    assert_eq!(step(top << 8 | 0x42, &mut state), done(0, 0, cycles));
-    let got = ([state.registers[r(2)], state.registers[r(3)]], state.flags);
-    let wanted = expected(top, ra, rb, before, ics);
-    assert_eq!(got, wanted, "{top:X} {ra:X?} {rb:X?} {before:X} {ics}");
-    assert_eq!(state.registers[r(4)..r(6)], rb);
+    state.registers[r(2)..r(6)].copy_from_slice(&file);
+    let cycles = if word & 0x200 == 0 { 1 } else { 2 };
+    assert_eq!(step(word, &mut state), done(0, 0, cycles));
+    let (left, flags) = expected(word, file, before, ics);
+    let told = || format!("{word:X} {file:X?} {before:X} {ics}");
+    assert_eq!(state.registers[r(2)..r(6)], left, "{}", told());
+    assert_eq!(state.flags, flags, "{}", told());
 }
 
 fn listed() -> impl Iterator<Item = u32> {
     (0x80..=0xDF).filter(|top| !matches!(top, 0xAC | 0xAD | 0xD4..=0xD7))
 }
 
+/// Checks a word with every two bytes in R2 and R3. The flags before only matter through C, and by
+/// being kept.
+fn every_two_bytes(word: u32) {
+    for operands in 0..=0xFFFF_u16 {
+        let [r2, r3] = operands.to_le_bytes();
+        let (one, other) = match operands.count_ones() % 2 {
+            0 => (0x5A, 0xA5),
+            _ => (0xA5, 0x5A),
+        };
+        check(word, [r2, r3, 0x77, 0x33], one, false);
+        check(word, [r2, r3, 0x00, 0x00], other, true);
+    }
+}
+
 #[test]
-fn every_byte_code_on_every_pair_of_bytes() {
-    // The flags before only matter through C, and by being kept.
+fn every_byte_code_on_every_two_bytes() {
     for top in listed().filter(|top| top & 2 == 0) {
-        for operands in 0..=0xFFFF_u16 {
-            let [ra, rb] = operands.to_le_bytes();
-            let before = if operands.count_ones() % 2 == 0 {
-                0x5A
-            } else {
-                0xA5
-            };
-            check(top, [ra, 0x77], [rb, 0x33], before, false);
-        }
-        for operands in 0..=0xFFFF_u16 {
-            let [ra, rb] = operands.to_le_bytes();
-            let before = if operands.count_ones() % 2 == 1 {
-                0x5A
-            } else {
-                0xA5
-            };
-            check(top, [ra, 0], [rb, 0], before, true);
-        }
+        every_two_bytes(top << 8 | 0x32);
+    }
+}
+
+#[test]
+fn every_word_code_crosswise_on_every_two_bytes() {
+    for top in listed().filter(|top| top & 2 != 0) {
+        every_two_bytes(top << 8 | 0x32);
+        every_two_bytes(top << 8 | 0x23);
     }
 }
 
@@ -200,12 +203,14 @@ fn every_byte_code_on_every_pair_of_bytes() {
 fn every_word_code_on_telling_words() {
     const BYTES: [u8; 12] = [0, 1, 2, 8, 0x0F, 0x10, 0x7F, 0x80, 0x88, 0xF0, 0xFE, 0xFF];
     let pairs = || BYTES.iter().flat_map(|&low| BYTES.map(|high| [low, high]));
-    for top in listed().filter(|top| top & 2 != 0) {
-        for ra in pairs() {
-            for rb in pairs() {
-                for (before, ics) in [(0x00, true), (0xFF, false), (0x6C, true)] {
-                    check(top, ra, rb, before, ics);
-                }
+    for word in listed().filter(|top| top & 2 != 0).map(|top| top << 8) {
+        for [r2, r3] in pairs() {
+            for [r4, r5] in pairs() {
+                let file = [r2, r3, r4, r5];
+                check(word | 0x42, file, 0x00, true);
+                check(word | 0x53, file, 0xFF, false);
+                check(word | 0x43, file, 0x6C, true);
+                check(word | 0x52, file, 0x93, false);
             }
         }
     }

@@ -120,7 +120,7 @@ fn refused_attempts_keep_them() {
     let mut state = before();
     let beyond = attempt(&[], &[], &mut state, compute());
     assert_eq!((beyond, state.outputs), (Outcome::Refused(5), BEFORE));
-    for (word, number) in [(0x7800, 6), (0xAC22, 6), (0xA232, 7), (0xE442, 8)] {
+    for (word, number) in [(0x7800, 6), (0xAC22, 6), (0xE442, 8)] {
         keeps(word, &before(), compute(), Outcome::Refused(number));
     }
 }
@@ -158,7 +158,7 @@ fn they_are_the_last_byte_and_at_most_15() {
 fn the_run_hands_them_back() {
     // RESET, a wait, R, COMPUTE low, NOP, and a refused word.
     let lines = [8, 6, 4, 0, 4, 4].map(|lines| [0, 0, lines, 0]);
-    let words = [(0, 1), (0xF832, 2), (0xFF00, 12), (0xA232, 15)];
+    let words = [(0, 1), (0xF832, 2), (0xFF00, 12), (0xE442, 15)];
     let words = words.map(|(word, outputs)| with_user(word, outputs));
     let mut state = BLANK;
     state[41] = BEFORE;
@@ -175,7 +175,7 @@ fn the_run_hands_them_back() {
         assert_eq!(ran.state[41], outputs, "{samples}");
     }
     let ran = ran(&deck(&words, &[], &state, &lines), 24);
-    assert_eq!((ran.numbers()[0], ran.state[41]), (7, 12));
+    assert_eq!((ran.numbers()[0], ran.state[41]), (8, 12));
 }
 
 #[test]

@@ -14,7 +14,7 @@ pub struct Observed {
     pub microcycles: Vec<u32>,
     /// Those that changed.
     pub flags: u8,
-    /// Of each set of a, a+1 and b, bits 0, 1 and 2: whether every register that changed is named by one of it.
+    /// Of each set of Ra, the high byte of its pair and Rb, bits 0, 1 and 2: whether every register that changed is in it.
     pub registers: [bool; 8],
     /// With REPLY and BUSY low, REPLY high, BUSY high, both high.
     pub waits: [bool; 4],
@@ -80,7 +80,7 @@ impl Observed {
 
     /// By G before the attempt.
     fn registers(&mut self, word: u32, before: &State, after: &State) {
-        let named = [word, word + 1, word >> 4].map(|designator| before.place(designator));
+        let named = [word, word ^ 1, word >> 4].map(|designator| before.place(designator));
         let changed: Vec<usize> = (0..26)
             .filter(|&place| before.registers[place] != after.registers[place])
             .collect();

@@ -23,7 +23,7 @@ pub struct Facts {
     pub microcycles: u32,
     /// N Z V C NB ZB C4 C8, high to low.
     pub flags: u8,
-    /// Of a, a+1 and b: bits 0, 1 and 2.
+    /// Of Ra, the high byte of its pair and Rb: bits 0, 1 and 2.
     pub registers: usize,
     /// With REPLY and BUSY low, REPLY high, BUSY high, both high.
     pub waits: [bool; 4],
@@ -85,7 +85,7 @@ fn facts(cells: &[&str]) -> Option<Facts> {
         registers: match cells[6] {
             "none" => 0,
             "Ra" => 0b001,
-            "Ra and Ra+1" => 0b011,
+            "Ra's pair" => 0b011,
             "Ra and Rb" => 0b101,
             _ => return None,
         },
@@ -123,13 +123,11 @@ impl Requirement {
 
     /// The refusal, or 0, that the page tells for b and a in a word's low byte.
     pub fn refusal(&self, low: u8) -> u8 {
-        let (b, a) = (low >> 4, low & 15);
+        let b = low >> 4;
         let causes = self.refusals.split('.').map(str::trim);
         let met = causes.filter(|cause| match *cause {
             "" | "none" => false,
             "6: code unlisted" | "6: the engine always refuses it" => true,
-            "7: a odd" => a % 2 == 1,
-            "7: a or b odd" => (a | b) % 2 == 1,
             "8: b over 7" => b > 7,
             "8: b over 3" => b > 3,
             // A cause that is not known here is met by every word, with a number that no word has.

@@ -33,13 +33,13 @@ pub enum Format {
     ByteFromB,
     /// Ra and Rb.
     Byte,
-    /// Rb+1:Rb to Ra+1:Ra.
+    /// Rb's pair to Ra's pair.
     WordFromB,
-    /// Ra+1:Ra and Rb+1:Rb.
+    /// Ra's pair and Rb's pair.
     Word,
     /// An option, and data to Ra.
     InputByte,
-    /// An option, and data to Ra+1:Ra.
+    /// An option, and data to Ra's pair.
     InputWord,
     /// Rb:Ra.
     Address,
@@ -92,7 +92,7 @@ impl Code {
         listing::waits(self.top)
     }
 
-    /// Whether it has pairs, which begin at even designators.
+    /// Whether it has pairs.
     pub fn pairs(&self) -> bool {
         matches!(
             self.format,

@@ -16,6 +16,8 @@ pub struct Demand {
     lines: (u8, u8),
     /// Bits of what it shifts, in the top byte, and what they must be.
     shifted: (u8, u8),
+    /// The designators of registers that must change.
+    changed: &'static [u8],
     /// What must be so before.
     before: fn(&State) -> bool,
 }
@@ -29,6 +31,7 @@ impl Demand {
             word: (0, 0),
             lines: (0, 0),
             shifted: (0, 0),
+            changed: &[],
             before: |_| true,
         }
     }
@@ -51,10 +54,15 @@ impl Demand {
         Self { lines, ..self }
     }
 
-    /// Under this mask the top byte of Rb, or of Rb+1:Rb, must be this before.
+    /// Under this mask the top byte of Rb, or of its pair, must be this before.
     pub fn shifted(self, mask: u8, value: u8) -> Self {
         let shifted = (mask, value);
         Self { shifted, ..self }
+    }
+
+    /// The registers of these designators must change.
+    pub fn changed(self, changed: &'static [u8]) -> Self {
+        Self { changed, ..self }
     }
 
     /// The state before must be such.
@@ -79,14 +87,25 @@ impl Demand {
             && setting.word() & self.word.0 == self.word.1
             && lines & self.lines.0 == self.lines.1
             && top_byte(setting) & self.shifted.0 == self.shifted.1
+            && self
+                .changed
+                .iter()
+                .all(|&designator| changes(own, designator))
             && (self.before)(&setting.state)
     }
 }
 
-/// Rb, or Rb+1 where 80-DF work on words.
+/// Whether the register of a designator is another after than before.
+fn changes(own: &Vector, designator: u8) -> bool {
+    let before = &own.draft.setting.state;
+    let at = place(designator, before.g);
+    own.after()
+        .map_or(false, |after| after.registers[at] != before.registers[at])
+}
+
+/// Rb, or the high byte of its pair where 80-DF work on words.
 fn top_byte(setting: &Setting) -> u8 {
     let (state, word) = (&setting.state, setting.word());
-    let rb = place((word >> 4) as u8, state.g);
-    let at = rb + usize::from(word & 0x200 != 0);
-    state.registers.get(at).copied().unwrap_or(0)
+    let high = (word >> 9) as u8 & 1;
+    state.registers[place((word >> 4) as u8 ^ high, state.g)]
 }

@@ -205,15 +205,50 @@ fn shifts(top: u8) -> Vec<Demand> {
     (0..4).flat_map(both).collect()
 }
 
-/// Refusal 7: a and b of the two-cycle codes 82-DF, a of IW and ISW.
+/// Odd pairs of the two-cycle codes 82-DF, and of IW and ISW.
 fn pairs(top: u8) -> Vec<Demand> {
-    let a = Demand::named("odd-a").claim(Refused(7)).word(0x11, 0x01);
-    let b = Demand::named("odd-b").claim(Refused(7)).word(0x11, 0x10);
+    let odd = |name: &str, bits: u32| Demand::named(name).claim(Executed).word(0x11, bits);
     match top {
-        0x82..=0xDF if top & 2 != 0 => vec![a, b],
-        0xE2 | 0xE3 | 0xE6 | 0xE7 => vec![a],
+        0x82..=0xDF if top & 2 != 0 => {
+            let mut all = vec![odd("odd-a", 0x01), odd("odd-b", 0x10)];
+            all.extend(crosswise(top));
+            all
+        }
+        0xE2 | 0xE3 | 0xE6 | 0xE7 => vec![
+            odd("odd-a", 0x01).changed(&[2, 3]),
+            Demand::named("odd-a-through-g")
+                .claim(Executed)
+                .word(0x0F, 0x01),
+        ],
         _ => Vec::new(),
     }
+}
+
+/// Crosswise pairs. Where anything is written, the first cycle changes what the second reads.
+fn crosswise(top: u8) -> Vec<Demand> {
+    let (even, odd) = (
+        Demand::named("crosswise").claim(Executed).word(0xFF, 0x32),
+        Demand::named("crosswise-odd-a")
+            .claim(Executed)
+            .word(0xFF, 0x23),
+    );
+    let mut all = match top {
+        // Compare and test.
+        0xB6 | 0xB7 | 0xC6 | 0xC7 => vec![even, odd],
+        // Right shifts begin with the high byte.
+        0xDA..=0xDF => vec![even.changed(&[3]), odd.changed(&[2])],
+        _ => vec![even.changed(&[2]), odd.changed(&[3])],
+    };
+    let through = match top & 1 {
+        0 => Demand::named("crosswise-through-g").word(0xFF, 0x01),
+        _ => Demand::named("crosswise-through-g").word(0xFF, 0xD0),
+    };
+    all.push(through.claim(Executed));
+    if matches!(top, 0x86 | 0x87 | 0xA6 | 0xA7 | 0xAE | 0xAF) {
+        let failed = Demand::named("crosswise-failed").claim(Failed);
+        all.push(failed.word(0xFF, 0x32));
+    }
+    all
 }
 
 /// IB, IW, ISB: each option, by M where it goes by M; the first that is not listed, and the last.
@@ -238,8 +273,8 @@ fn options(top: u8) -> Vec<Demand> {
     }
     all.extend([listed, 15].map(|at| option(at, "").claim(Refused(8))));
     if top & 2 != 0 {
-        let both = Demand::named("odd-a-option-8").claim(Refused(7));
-        all.push(both.word(0xF1, 0x81));
+        let odd = Demand::named("odd-a-option-8").claim(Refused(8));
+        all.push(odd.word(0xF1, 0x81));
     }
     all
 }

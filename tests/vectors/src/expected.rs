@@ -15,7 +15,7 @@ const ANSWERS: [&str; 9] = [
     "",
     "LC has no word",
     "code unlisted, or AC",
-    "odd designator where a pair is needed",
+    "",
     "option not listed",
 ];
 

@@ -118,7 +118,7 @@ fn literal(code: &Code) -> &'static str {
 
 fn register(code: &Code) -> String {
     let (a, b) = match code.pairs() {
-        true => ("Ra+1:Ra", "Rb+1:Rb"),
+        true => ("Ra's pair", "Rb's pair"),
         false => ("Ra", "Rb"),
     };
     let name = |letter: char| match letter {
@@ -138,8 +138,10 @@ fn register(code: &Code) -> String {
 fn input(code: &Code) -> &'static str {
     match code.top & 0xFE {
         0xE0 => "takes the byte of DAL that b chooses to Ra, then lets the bus go unless b is 4-7",
-        0xE2 => "takes DAL to Ra+1:Ra, and by b to TR and G, then lets the bus go unless b is 4-7",
+        0xE2 => {
+            "takes DAL to Ra's pair, and by b to TR and G, then lets the bus go unless b is 4-7"
+        }
         0xE4 => "takes the byte of DAL that b chooses to Ra, whatever REPLY and BUSY are",
-        _ => "takes DAL to Ra+1:Ra, whatever REPLY and BUSY are",
+        _ => "takes DAL to Ra's pair, whatever REPLY and BUSY are",
     }
 }

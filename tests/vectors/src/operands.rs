@@ -34,9 +34,9 @@ pub struct Operands {
     pub b: u8,
     /// The literal.
     pub literal: u8,
-    /// Ra, the pair Ra+1:Ra, or Rb:Ra.
+    /// Ra, its pair, or Rb:Ra.
     pub p: Option<u16>,
-    /// Rb or the pair Rb+1:Rb.
+    /// Rb or its pair.
     pub q: Option<u16>,
     /// The data on DAL.
     pub data: Option<u16>,
@@ -70,8 +70,10 @@ impl Operands {
 
     /// Puts the operands in their registers.
     fn fill(&self, code: &Code, state: &mut State) {
-        let (a, b) = (place(self.a, state.g), place(self.b, state.g));
-        let mut put = |at: usize, value: u16| state.registers[at] = value as u8;
+        let (a, b, g) = (self.a, self.b, state.g);
+        let mut put = |designator: u8, value: u16| {
+            state.registers[place(designator, g)] = value as u8;
+        };
         match (code.format, self.p) {
             (Format::Address, Some(p)) => {
                 put(b, p >> 8);
@@ -79,7 +81,7 @@ impl Operands {
             }
             (Format::Word, Some(p)) => {
                 put(a, p);
-                put(a + 1, p >> 8);
+                put(other(a), p >> 8);
             }
             (_, Some(p)) => put(a, p),
             (_, None) => {}
@@ -87,7 +89,7 @@ impl Operands {
         match (code.format, self.q) {
             (Format::Word | Format::WordFromB, Some(q)) => {
                 put(b, q);
-                put(b + 1, q >> 8);
+                put(other(b), q >> 8);
             }
             (_, Some(q)) => put(b, q),
             (_, None) => {}
@@ -101,6 +103,11 @@ impl Operands {
         let literals = (self.literal ^ other.literal).count_ones();
         literals + bits(self.p, other.p) + bits(self.q, other.q) + bits(self.data, other.data)
     }
+}
+
+/// The designator of the high byte of a pair, by that of its low byte.
+pub fn other(designator: u8) -> u8 {
+    designator ^ 1
 }
 
 fn set_input(state: &mut State, input: Input, high: bool) {

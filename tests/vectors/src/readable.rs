@@ -2,6 +2,7 @@
 
 use crate::code::{Code, Format};
 use crate::listed::Lines;
+use crate::operands::other;
 use crate::row::{Asked, Part, Row, LRA, LTA, LTSR};
 use crate::setting::{Sample, Setting};
 use compare::fields::{other_fields, register_fields, Field, NONE};
@@ -166,9 +167,11 @@ fn remaining(state: &State) -> Vec<String> {
 /// The registers that the word names, as far as its code looks at them.
 fn designated(code: &Code, setting: &Setting) -> Vec<(String, Vec<usize>)> {
     let (word, g) = (setting.word(), setting.state.g);
-    let a = place(word as u8, g);
-    let b = place((word >> 4) as u8, g);
+    let [own_a, own_b] = [word as u8, (word >> 4) as u8];
+    let [a, b] = [own_a, own_b].map(|own| place(own, g));
+    let [high_a, high_b] = [own_a, own_b].map(|own| place(other(own), g));
     let named = |label: &str, places: &[usize]| (label.to_string(), places.to_vec());
+    let pair_a = || named("low and high byte of Ra's pair", &[a, high_a]);
     match code.format {
         Format::Control if !matches!(code.mnemonic, "CCF" | "LGL") => Vec::new(),
         Format::Literal | Format::Single | Format::InputByte | Format::Control => {
@@ -176,11 +179,15 @@ fn designated(code: &Code, setting: &Setting) -> Vec<(String, Vec<usize>)> {
         }
         Format::ByteFromB | Format::Byte if a == b => vec![named("Ra, Rb", &[a])],
         Format::ByteFromB | Format::Byte => vec![named("Ra", &[a]), named("Rb", &[b])],
+        Format::WordFromB | Format::Word if a == high_b => vec![named(
+            "low and high byte of Ra's pair, high and low byte of Rb's",
+            &[a, high_a],
+        )],
         Format::WordFromB | Format::Word => vec![
-            named("Ra, Ra+1", &[a, a + 1]),
-            named("Rb, Rb+1", &[b, b + 1]),
+            pair_a(),
+            named("low and high byte of Rb's pair", &[b, high_b]),
         ],
-        Format::InputWord => vec![named("Ra, Ra+1", &[a, a + 1])],
+        Format::InputWord => vec![pair_a()],
         Format::Address if a == b => vec![named("Ra, Rb", &[a])],
         Format::Address => vec![named("Ra, Rb", &[a, b])],
         _ => Vec::new(),

@@ -13,7 +13,7 @@ pub fn written(code: &Code, operands: &Operands) -> String {
         false => format!("{value:02X}"),
     };
     let (p, q) = match code.format {
-        Word | WordFromB => ("Ra+1:Ra", "Rb+1:Rb"),
+        Word | WordFromB => ("Ra's pair", "Rb's pair"),
         Address => ("Rb:Ra", ""),
         _ => ("Ra", "Rb"),
     };

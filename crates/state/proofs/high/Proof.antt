@@ -9,4 +9,4 @@ unfolding highOf
 returns c = search needs
 
 pub high-spec : {M : Type 1} → statement M
-high-spec = tie.close (tie.spec (search needs) returns)
+high-spec = tie.close (tie.spec returns)

@@ -82,13 +82,12 @@ pub(super) fn illegal(random: &mut Random) -> Draft {
     let mut draft = Draft::lasting(random, 256, 16, 300);
     for word in draft.words.iter_mut().filter(|word| **word & 0xF000 != 0) {
         if random.one_in(24) {
-            let code = match random.below(4) {
-                0 => random.pick(&[
+            let code = if random.one_in(3) {
+                random.pick(&[
                     0x7800, 0x7F00, 0xAC00, 0xAD00, 0xD400, 0xD700, 0xE800, 0xEB00,
-                ]),
-                1 => 0x8200 + (random.below(24) << 10),
-                2 => 0xE000 + (random.below(6) << 8),
-                _ => random.pick(&[0xE200, 0xE300, 0xE600, 0xE700]),
+                ])
+            } else {
+                0xE000 + (random.below(6) << 8)
             };
             *word = parts::upper_bits(random) | code | random.below(256);
         }

@@ -39,11 +39,11 @@ pub enum Kind {
     Bare,
     /// Valid: a request buffer of any length that is enough, odd ones too.
     Roomy,
-    /// In range, some words illegal: refusals 6, 7 and 8 at a fetch.
+    /// In range, some words illegal: refusals 6 and 8 at a fetch.
     Illegal,
     /// In range, jumps and rows lead anywhere: refusal 5 at a fetch.
     Astray,
-    /// In range, every word 22 random bits: refusals 5 to 8 early.
+    /// In range, every word 22 random bits: refusals 5, 6 and 8 early.
     Noise,
 
     /// State: G above 7.

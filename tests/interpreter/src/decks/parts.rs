@@ -4,7 +4,7 @@ use super::Random;
 use crate::code::CODES;
 use crate::STATE_BYTES;
 
-/// A program of listed codes with legal designators that stays inside its words.
+/// A program of listed codes with listed options that stays inside its words.
 pub(super) fn program(random: &mut Random, count: usize) -> Vec<u32> {
     let mut words: Vec<u32> = Vec::with_capacity(count);
     for own in 0..count {
@@ -52,10 +52,10 @@ pub(super) fn legal_word(random: &mut Random, own: usize, count: usize) -> u32 {
     upper_bits(random) | word
 }
 
-/// The word without the designator and option bits that would have it refused.
+/// The word without the option bits that would have it refused.
 pub(super) fn legal(word: u32) -> u32 {
     let code = CODES[(word >> 8 & 0xFF) as usize];
-    word & !u32::from(code.odd | code.options)
+    word & !u32::from(code.options)
 }
 
 /// Bits 16-21: RR and RNI sometimes, the user's outputs anyhow.

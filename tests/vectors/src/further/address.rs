@@ -26,7 +26,7 @@ fn no_pair(code: &Code, ordinary: &Operands) -> Draft {
         b: 4,
         ..ordinary.clone()
     };
-    let shows = "a is 7 and b is 4: Rb:Ra needs no pair, and an odd a is not refused.";
+    let shows = "a is 7 and b is 4: Rb:Ra are these two registers, and no pair.";
     Draft::executed("no-pair", low(code, &operands), shows)
 }
 

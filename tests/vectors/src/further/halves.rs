@@ -2,7 +2,7 @@
 
 use crate::code::{self, Code, Format};
 use crate::draft::{low, Draft};
-use crate::operands::{borders, middling, Operands};
+use crate::operands::{borders, middling, other, Operands};
 use interpreter::place;
 
 /// What a draft needs of the operands and the result's low and high byte.
@@ -64,7 +64,7 @@ fn result(code: &Code, operands: &Operands) -> [u8; 2] {
     let low = place(operands.a, setting.state.g);
     let high = match code.format {
         Format::Address => place(operands.b, setting.state.g),
-        _ => low + 1,
+        _ => place(other(operands.a), setting.state.g),
     };
     [left.state[low], left.state[high]]
 }

@@ -116,13 +116,13 @@ fn unlisted(code: &Code, ordinary: &Operands, first: u8) -> Vec<Draft> {
     vec![refused(first), refused(15)]
 }
 
-/// Both refusals apply, and 7 comes first.
+/// An odd pair changes nothing of that.
 fn odd_and_unlisted(code: &Code, ordinary: &Operands) -> Draft {
     Draft::new(
         "odd-a-option-8",
-        Claim::Refused(7),
+        Claim::Refused(8),
         option(code, ordinary, 8).with_bits(1),
-        "a is odd and option 8 is not listed: 7 comes before 8.",
+        "a is odd, and option 8 is not listed: refused with 8.",
     )
 }
 

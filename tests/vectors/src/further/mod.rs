@@ -8,6 +8,7 @@ mod halves;
 mod inputs;
 mod interrupts;
 mod jumps;
+mod pairs;
 mod refused;
 mod registers;
 mod rows;
@@ -56,6 +57,6 @@ fn with_operands(code: &Code, chosen: Chosen) -> Vec<Draft> {
     drafts.extend(halves);
     drafts.extend(shifts::drafts(code, ordinary));
     drafts.push(registers::through_g(code, ordinary));
-    drafts.extend(registers::odd(code, ordinary));
+    drafts.extend(pairs::drafts(code, ordinary));
     drafts
 }

@@ -1,4 +1,4 @@
-//! What the codes with registers share: the flag that they read, G, and pairs.
+//! What the codes with registers share: the flag that they read, and G; literals.
 
 use crate::code::{Code, Format};
 use crate::draft::{high, low, Claim, Draft};
@@ -56,34 +56,6 @@ pub fn through_g(code: &Code, ordinary: &Operands) -> Draft {
         "."
     };
     Draft::executed("through-g", low(code, &operands), shows)
-}
-
-/// Odd designators where a pair is needed, the condition failing where there is one.
-pub fn odd(code: &Code, ordinary: &Operands) -> Vec<Draft> {
-    if !code.pairs() {
-        return Vec::new();
-    }
-    let operands = Operands {
-        input: ordinary.input.map(|_| false),
-        ..ordinary.clone()
-    };
-    let though = match (code.conditional(), code.reads()) {
-        (true, Some(input)) => format!(", although {} is 0 and the condition fails", input.name()),
-        _ => String::new(),
-    };
-    let draft = |name: &str, letter: &str, bit: u32| {
-        Draft::new(
-            name,
-            Claim::Refused(7),
-            low(code, &operands).with_bits(bit),
-            format!("{letter} is odd and begins no pair: refused with 7{though}."),
-        )
-    };
-    let mut drafts = vec![draft("odd-a", "a", 0x01)];
-    if code.format != Format::InputWord {
-        drafts.push(draft("odd-b", "b", 0x10));
-    }
-    drafts
 }
 
 /// The lowest and highest literal, and one that a modification makes.

@@ -5,6 +5,10 @@ use compare::deck::Sections;
 use compare::describe::{KINDS, WAIT};
 use compare::difference::word;
 use compare::listing::{self, Waits};
+use interpreter::place;
+
+/// The numbers on the refusal slip; 7 no longer occurs.
+const ANSWERS: [usize; 9] = [0, 1, 2, 3, 4, 5, 6, 8, 9];
 
 /// Listed instructions, CAD among them.
 const LISTED: usize = 150;
@@ -17,10 +21,12 @@ pub struct Seen {
     attempts: u64,
     answers: [u64; 10],
     kinds: [u64; 13],
-    /// Single attempts by the top byte of the word taken: all, completed ones, waits.
+    /// Single attempts by the top byte of the word taken: all, completed ones, waits, completed ones
+    /// with crosswise pairs.
     seen: [u64; 256],
     completed: [u64; 256],
     waited: [u64; 256],
+    crosswise: [u64; 256],
 }
 
 impl Seen {
@@ -34,6 +40,7 @@ impl Seen {
             seen: [0; 256],
             completed: [0; 256],
             waited: [0; 256],
+            crosswise: [0; 256],
         }
     }
 
@@ -46,14 +53,17 @@ impl Seen {
         for request in places.filter_map(|place| left.request(place)) {
             self.kinds[request as usize >> 16] += 1;
         }
-        if let Some(top) = single(call, left) {
+        if let Some((top, crosswise)) = single(call, left) {
             self.seen[top] += 1;
             match (
                 left.report.answer,
                 left.request(0).map(|request| request >> 16),
             ) {
                 (0, Some(WAIT)) => self.waited[top] += 1,
-                (0, _) => self.completed[top] += 1,
+                (0, _) => {
+                    self.completed[top] += 1;
+                    self.crosswise[top] += u64::from(crosswise);
+                }
                 _ => {}
             }
         }
@@ -62,9 +72,9 @@ impl Seen {
     /// Prints the counts.
     pub fn print(&self) {
         println!("attempts: {}", self.attempts);
-        let answers: Vec<String> = (0..10)
+        let answers: Vec<String> = ANSWERS
             .map(|at| format!("{at}: {}", self.answers[at]))
-            .collect();
+            .to_vec();
         println!("answers: {}", answers.join(", "));
         let kinds = KINDS.iter().zip(self.kinds);
         let kinds: Vec<String> = kinds
@@ -78,21 +88,26 @@ impl Seen {
         if let Some((count, key)) = least {
             println!("completed least often in single attempts: {key}, {count} times");
         }
+        let pairs: u64 = self.crosswise.iter().sum();
+        println!("crosswise pairs in single attempts: {pairs}");
     }
 
     /// What the cases were to show and did not.
     pub fn missing(&self) -> Vec<String> {
-        let answers = (0..10).filter(|&at| self.answers[at] == 0);
+        let answers = ANSWERS.into_iter().filter(|&at| self.answers[at] == 0);
         let answers = answers.map(|at| format!("answer {at} never came"));
         let kinds = (0..13).filter(|&at| self.kinds[at] == 0);
         let kinds = kinds.map(|at| format!("no {} request", KINDS[at]));
         let waits = (0..=255).filter(|&top| listing::waits(top) != Waits::Never);
         let waits = waits.filter(|&top| self.waited[usize::from(top)] == 0);
         let waits = waits.map(|top| format!("{top:02X} never waited"));
+        let pairs = (0..=255).filter(|&top| listing::pairs(top));
+        let pairs = pairs.filter(|&top| self.crosswise[usize::from(top)] == 0);
+        let pairs = pairs.map(|top| format!("{top:02X} never had crosswise pairs"));
         let listed = listing::keys();
         let count = (listed.len() != LISTED).then(|| format!("{} are listed", listed.len()));
         let listed = listed.iter().filter_map(|key| self.lacking(key));
-        let instructions = waits.chain(listed).chain(count);
+        let instructions = waits.chain(pairs).chain(listed).chain(count);
         answers.chain(kinds).chain(instructions).collect()
     }
 
@@ -112,15 +127,18 @@ impl Seen {
     }
 }
 
-/// The top byte of the word that the only attempt of a call takes, when it takes one.
-fn single(call: &Call, left: &Left) -> Option<usize> {
+/// The top byte of the word that the only attempt of a call takes, when it takes one, and whether
+/// its pairs are crosswise: Ra is Rb's high byte.
+fn single(call: &Call, left: &Left) -> Option<(usize, bool)> {
     let sections = Sections::of(&call.deck)?;
     let lines = match sections.samples {
         [_, _, lines, _] => lines,
         _ => return None,
     };
     // COMPUTE high and RESET low.
-    let takes = lines >> 2 & 3 == 1 && matches!(left.report.answer, 0 | 6..=8);
+    let takes = lines >> 2 & 3 == 1 && matches!(left.report.answer, 0 | 6 | 8);
     let word = word(&sections, sections.state)?;
-    takes.then(|| usize::from((word >> 8) as u8))
+    let (top, g) = ((word >> 8) as u8, sections.state[26]);
+    let across = place(word as u8, g) == place((word >> 4) as u8 ^ 1, g);
+    takes.then(|| (usize::from(top), across && listing::pairs(top)))
 }
