@@ -199,6 +199,13 @@ fn every_word_code_crosswise_on_every_two_bytes() {
     }
 }
 
+/// Checks a word with some flags before, ICS high and low.
+fn every_setting(word: u32, file: [u8; 4]) {
+    for (before, ics) in [(0x00, true), (0xFF, false), (0x6C, true)] {
+        check(word, file, before, ics);
+    }
+}
+
 #[test]
 fn every_word_code_on_telling_words() {
     const BYTES: [u8; 12] = [0, 1, 2, 8, 0x0F, 0x10, 0x7F, 0x80, 0x88, 0xF0, 0xFE, 0xFF];
@@ -206,11 +213,9 @@ fn every_word_code_on_telling_words() {
     for word in listed().filter(|top| top & 2 != 0).map(|top| top << 8) {
         for [r2, r3] in pairs() {
             for [r4, r5] in pairs() {
-                let file = [r2, r3, r4, r5];
-                check(word | 0x42, file, 0x00, true);
-                check(word | 0x53, file, 0xFF, false);
-                check(word | 0x43, file, 0x6C, true);
-                check(word | 0x52, file, 0x93, false);
+                for designators in [0x42, 0x53, 0x43, 0x52] {
+                    every_setting(word | designators, [r2, r3, r4, r5]);
+                }
             }
         }
     }
