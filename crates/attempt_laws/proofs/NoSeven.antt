@@ -41,14 +41,17 @@ fate-not-7 ws k s =
     (pick-all Not7 (ltb (k .address .lc) (length ws / 4)) _ _ (word-not-7 (takenWord ws k) s) (λ e. omega arith))
     tt)
 
+same-refusal : {e d : Leaves Outcome} → e ≡ d → e .back .refusal ≡ d .back .refusal
+same-refusal = ap (λ (m : Leaves Outcome). m .back .refusal)
+
 ends-not-7 : (word : ℕ) (xs : List ℕ) (k : Core) (s : Sample) (o : Outputs) (e : Leaves Outcome) (f : Fate) → Not7 f → EndsAs word xs k s o e f
     → e .back .refusal ≡ 7 → ⊥
 unfolding executedOf
-ends-not-7 word xs k s o e (refused n) h (z, q) seven = h (sym (ap (λ (m : Leaves Outcome). m .back .refusal) q) ∙ seven)
-ends-not-7 word xs k s o e waited h q seven = omega (arith, ap (λ (m : Leaves Outcome). m .back .refusal) q)
-ends-not-7 word xs k s o e reset h q seven = omega (arith, ap (λ (m : Leaves Outcome). m .back .refusal) q)
-ends-not-7 word xs k s o e compute-low h q seven = omega (arith, ap (λ (m : Leaves Outcome). m .back .refusal) q)
-ends-not-7 word xs k s o e completed h (w, p, q) seven = omega (arith, ap (λ (m : Leaves Outcome). m .back .refusal) q)
+ends-not-7 word xs k s o e (refused n) h (z, q) seven = h (sym (same-refusal q) ∙ seven)
+ends-not-7 word xs k s o e waited h q seven = omega (arith, same-refusal q)
+ends-not-7 word xs k s o e reset h q seven = omega (arith, same-refusal q)
+ends-not-7 word xs k s o e compute-low h q seven = omega (arith, same-refusal q)
+ends-not-7 word xs k s o e completed h (w, p, q) seven = omega (arith, same-refusal q)
 
 pub attempt-not-7 : (ws : List ℕ) (rs : List Row) (xs : List ℕ) (k : Core) (s : Sample) → attemptOf ws rs xs k s .back .refusal ≡ 7 → ⊥
 attempt-not-7 ws rs xs k s =
