@@ -1,4 +1,4 @@
-# make run: the bench host on every example, or on DECKS="mine.deck ...". make test: the gate.
+# make run: the bench host on every example, or on DECKS="mine.deck ..", with MARKING=1621 for a CP1621B. make test: the gate.
 # make vectors, make requirements, make listing: write vectors/, docs/REQUIREMENTS.md and docs/LISTING.md anew.
 # make bench: engine against interpreter, and a line of the assembler and the lister in short and long texts.
 # make soak: decks over and over for a night, or DECKS="mine.deck .." HOURS=8 or RUNS=COUNT, JOBS=COUNT, LOG=FILE. docs/SOAK.md says more.

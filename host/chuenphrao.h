@@ -1,5 +1,6 @@
 /* The engine's interface: it runs a deck of MCP-1600 microcode, one attempt for each line sample. The assembler
-   and the lister, which turn a typed listing into words and words into a listing, are at the end.
+   and the lister, which turn a typed listing into words and words into a listing, come after it, and the check
+   of the service profile is at the end.
 
    A DECK is at most 65,536 bytes: four sections in this order, each after its count of two bytes.
    All numbers have their low byte first. An unused bit that is set makes its item out of range.
@@ -39,7 +40,13 @@
 
 enum { DECK_MOST = 65536, WORD_BYTES = 4, ROW_BYTES = 16, STATE_BYTES = 42, SAMPLE_BYTES = 4, REQUEST_BYTES = 4 };
 
-/* The answers. Of several that apply the first in this order is given: 9, 1, 2, 3, 4, then at each
+/* The control chip's marking, which a run names: CP1661B is the base, CP1621B has Q1. An IB or IW with b 4-7 asks
+   for a read-modify-write, which keeps SYNC and IACK. With CP1621B it is one only if Q1 is false, read from TR
+   before the instruction. Q1 is (not TR14 and TR13) or (not TR14, not TR12, TR11, not TR10, TR9, TR8, TR7 and TR6
+   together). */
+enum { MARKING_CP1661B = 1661, MARKING_CP1621B = 1621 };
+
+/* The answers. Of several that apply the first in this order is given: 9, 24, 1, 2, 3, 4, then at each
    attempt 5, 6, 8. An attempt with RESET high or COMPUTE low is never refused. */
 enum {
     ANSWER_DONE = 0,    /* all samples used */
@@ -55,6 +62,7 @@ enum {
     ANSWER_OPTION = 8,  /* option not listed */
     ANSWER_DECK = 9,    /* deck over 65,536 bytes, state count not 1, length other than its counts say,
                            or the state buffer not STATE_BYTES bytes */
+    ANSWER_MARKING = 24, /* unknown marking */
 };
 
 /* A request is its kind times 65,536 plus a value of 16 bits. */
@@ -76,7 +84,7 @@ enum {
 };
 
 typedef struct {
-    uint32_t answer;      /* 0-9, as above */
+    uint32_t answer;      /* as above */
     uint32_t attempts;    /* attempts made, a refused one not among them */
     uint32_t microcycles; /* what they cost */
 } report;
@@ -88,6 +96,7 @@ typedef struct {
              counted from 0, low byte first. It may be longer: what lies past the samples' places
              is never touched.
    state     STATE_BYTES bytes.
+   marking   of the control chip, one of the two above.
 
    No two of the buffers may overlap. A buffer of length 0 still needs a pointer that is not null.
 
@@ -96,9 +105,10 @@ typedef struct {
      0         those of all samples  the state after them    a request for each sample
      5, 6, 8   those before the      the state before the    a request for each attempt made;
                refused attempt       refused attempt         the other places are as found
-     1-4, 9    0 and 0               what it held before     what it held before */
+     1-4, 9    0 and 0               what it held before     what it held before
+     24        0 and 0               what it held before     what it held before */
 report run(const uint8_t *deck, size_t deck_len, uint8_t *requests, size_t requests_len,
-           uint8_t *state, size_t state_len);
+           uint8_t *state, size_t state_len, uint32_t marking);
 
 /* A LISTING is a text of lines. Each has an address, a mnemonic, its operands in hexadecimal and its marks,
    split by spaces, and ends with a newline, which the last may lack: "003 CW 4 2 ODD RR U5". Tabs, carriage
@@ -135,5 +145,27 @@ typedef struct {
    and output may not overlap. A buffer of length 0 still needs a pointer that is not null. */
 listing_report assemble(const uint8_t *text, size_t text_len, uint8_t *words, size_t words_len);
 listing_report list_words(const uint8_t *words, size_t words_len, uint8_t *text, size_t text_len);
+
+/* THE SERVICE PROFILE for plants' microcode, four rules in this order:
+
+     1   no MI
+     2   RR loaded (bit 16) only by JMP or a conditional jump
+     3   no word at address 0 but NOP or JMP
+     4   no unlisted code and no CAD anywhere
+
+   profile  Only reads the words. 2 comes as from list_words, with its address; then 25 with the first offending
+            address and the first rule broken there; else 0. A run of accepted words that starts without a
+            waiting modification is never refused by 6, with either marking. docs/PROFILE.md says why.
+
+   A buffer of length 0 still needs a pointer that is not null. */
+enum { PROFILE_BROKEN = 25 };
+
+typedef struct {
+    uint32_t answer;
+    uint32_t address; /* with 2 and 25, else 0 */
+    uint32_t rule;    /* with 25: 1-4, else 0 */
+} profile_report;
+
+profile_report profile(const uint8_t *words, size_t words_len);
 
 #endif

@@ -18,6 +18,7 @@ static const char *const answers[] = {
     [ANSWER_PAIR] = "no longer given",
     [ANSWER_OPTION] = "option not listed",
     [ANSWER_DECK] = "deck over 65,536 bytes, state count not 1, or length other than its counts say",
+    [ANSWER_MARKING] = "unknown marking",
 };
 
 static const char *const kinds[KINDS] = {
@@ -74,15 +75,27 @@ static void show_given(const uint8_t *state)
            number_at(state + MODIFICATION));
 }
 
+static void show_marking(uint32_t marking)
+{
+    bool known = marking == MARKING_CP1661B || marking == MARKING_CP1621B;
+    printf(known ? "  marking      CP%uB\n" : "  marking      %u\n", marking);
+}
+
+static const char *answer_text(uint32_t answer)
+{
+    const char *text = answer < sizeof answers / sizeof *answers ? answers[answer] : NULL;
+    return text ? text : "no answer of the engine's interface";
+}
+
 static void show_answer(const outcome *ran)
 {
     uint32_t answer = ran->report.answer;
-    bool known = answer < sizeof answers / sizeof *answers;
     if (ran->deck.state) {
         printf("  deck         words %u, rows %u, samples %u\n", ran->deck.words, ran->deck.rows, ran->deck.samples);
         show_words(&ran->deck);
     }
-    printf("  answer       %u: %s", answer, known ? answers[answer] : "no answer of the engine's interface");
+    show_marking(ran->marking);
+    printf("  answer       %u: %s", answer, answer_text(answer));
     if (was_run(ran) && answer != ANSWER_DONE)
         printf(", at attempt %u", ran->report.attempts + 1);
     printf("\n  attempts     %u\n  microcycles  %u\n", ran->report.attempts, ran->report.microcycles);
@@ -221,7 +234,7 @@ void show(const outcome *ran)
 void show_line(const outcome *ran)
 {
     const uint8_t *state = was_run(ran) ? ran->state : ran->deck.state;
-    printf("answer %u  attempts %5u  microcycles %6u  ", ran->report.answer, ran->report.attempts,
+    printf("answer %-2u attempts %5u  microcycles %6u  ", ran->report.answer, ran->report.attempts,
            ran->report.microcycles);
     if (ran->report.answer != ANSWER_DECK && state)
         printf("LC %03X  flags %02X", number_at(state + LC), state[FLAGS]);

@@ -7,6 +7,7 @@
 
 typedef struct {
     const char *name; /* of the deck's file */
+    uint32_t marking; /* that the run named */
     sections deck;
     report report;
     const uint8_t *requests, *state; /* as the engine left them */

@@ -1,5 +1,5 @@
-/* The engine's bench host for tests: driver [TIMES]. A call is three lengths (deck, request buffer, state buffer), then
-   the three as they are before. Its answer is the report, the damage (4 bytes), the nanoseconds (8 bytes), then both
+/* The engine's bench host for tests: driver [TIMES]. A call is three lengths (deck, request buffer, state buffer), the
+   marking, then the three as they are before. Its answer is the report, the damage (4 bytes), the nanoseconds (8 bytes), then both
    buffers as they are after. With TIMES each call is run so often, and the nanoseconds are those of all. */
 #include "../../host/chuenphrao.h"
 #include "server.h"
@@ -12,10 +12,11 @@ enum { AROUND_DECK = 1, AROUND_REQUESTS = 2, AROUND_STATE = 4, DECK = 8 };
 
 static long times = 1;
 
-static void answer(const uint32_t lengths[3])
+static void answer(const uint32_t *numbers)
 {
-    buffer deck = guarded(lengths[0]), requests = guarded(lengths[1]), state = guarded(lengths[2]);
+    buffer deck = guarded(numbers[0]), requests = guarded(numbers[1]), state = guarded(numbers[2]);
     buffer copy = guarded(deck.len);
+    uint32_t marking = numbers[3];
     get(deck.bytes, deck.len);
     get(requests.bytes, requests.len);
     get(state.bytes, state.len);
@@ -24,7 +25,7 @@ static void answer(const uint32_t lengths[3])
     report is = {0};
     uint64_t begun = nanoseconds();
     for (long i = 0; i < times; i++)
-        is = run(deck.bytes, deck.len, requests.bytes, requests.len, state.bytes, state.len);
+        is = run(deck.bytes, deck.len, requests.bytes, requests.len, state.bytes, state.len, marking);
     uint64_t taken = nanoseconds() - begun;
 
     uint32_t damage = (intact(deck) ? 0 : AROUND_DECK) | (intact(requests) ? 0 : AROUND_REQUESTS)
@@ -44,5 +45,5 @@ int main(int count, char **words)
 {
     if (count > 1)
         times = atol(words[1]);
-    return serve(answer);
+    return serve(4, answer);
 }

@@ -59,12 +59,12 @@ uint64_t nanoseconds(void)
     return (uint64_t)now.tv_sec * 1000000000u + (uint64_t)now.tv_nsec;
 }
 
-int serve(void (*answer)(const uint32_t numbers[3]))
+int serve(size_t count, void (*answer)(const uint32_t *numbers))
 {
-    uint32_t numbers[3];
+    uint32_t numbers[NUMBERS_MOST];
     size_t got;
     alarm(SECONDS_AT_MOST);
-    while ((got = fread(numbers, 1, sizeof numbers, stdin)) == sizeof numbers) {
+    while ((got = fread(numbers, 1, count * sizeof *numbers, stdin)) == count * sizeof *numbers) {
         answer(numbers);
         /* A call that kills this program is then the first without an answer. */
         if (fflush(stdout))

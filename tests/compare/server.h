@@ -21,7 +21,8 @@ void put(const void *from, size_t len);
 
 uint64_t nanoseconds(void);
 
-/* Answers each call, which begins with three numbers of 4 bytes, until the input ends. It is main's status. */
-int serve(void (*answer)(const uint32_t numbers[3]));
+/* Answers each call, which begins with so many numbers of 4 bytes, until the input ends. It is main's status. */
+enum { NUMBERS_MOST = 4 };
+int serve(size_t count, void (*answer)(const uint32_t *numbers));
 
 #endif

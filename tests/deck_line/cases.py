@@ -1,4 +1,5 @@
-"""01, "Checked by hand": the cases that need a deck, through the deck program. cases.py PROGRAM.. runs it on each."""
+"""01, "Checked by hand": the cases that need a deck, through the deck program, and the markings that it may be given.
+cases.py PROGRAM.. runs it on each."""
 import struct
 import subprocess
 import sys
@@ -56,11 +57,46 @@ CASES = [
     ("two states", deck([NOP], {}, states=2), "9 0 0"),
 ]
 
+ADD = deck([0xA132], {12: 255, 13: 1, 27: 16})
+DONE, UNKNOWN = "0 1 1 1 87", "24 0 0 0 16"
+
+# arguments, deck, line
+MARKED = [
+    (["1661"], ADD, DONE),
+    (["1621"], ADD, DONE),
+    (["0000001621"], ADD, DONE),
+    (["00000001621"], ADD, UNKNOWN),  # longer than is read
+    (["1622"], ADD, UNKNOWN),
+    (["0"], ADD, UNKNOWN),
+    (["4294968917"], ADD, UNKNOWN),  # 1621 modulo 2^32
+    (["999999999"], ADD, UNKNOWN),
+    (["1" * 5000], ADD, UNKNOWN),
+    ([""], ADD, UNKNOWN),
+    (["CP1621B"], ADD, UNKNOWN),
+    (["1621B"], ADD, UNKNOWN),
+    (["0x655"], ADD, UNKNOWN),
+    (["+1621"], ADD, UNKNOWN),
+    (["-1621"], ADD, UNKNOWN),
+    ([" 1621"], ADD, UNKNOWN),
+    (["1621/"], ADD, UNKNOWN),  # the bytes before and after the digits
+    (["1621:"], ADD, UNKNOWN),
+    (["1661", "1661"], ADD, UNKNOWN),
+    (["1661", ""], ADD, UNKNOWN),
+    (["1621"], b"", "9 0 0"),
+    (["1622"], b"", "9 0 0"),
+    (["1621"], deck([NOP], {**at(2048), 27: 87}), "1 0 0 2048 87"),
+    (["1622"], deck([NOP], {**at(2048), 27: 87}), "24 0 0 2048 87"),
+    (["1622"], deck([1 << 22], {27: 87}), "24 0 0 0 87"),
+    (["1622"], deck([0x7800]), "24 0 0 0 0"),
+]
+
+ALL = [(name, [], given, expected) for name, given, expected in CASES]
+ALL += [(f"{words}"[:60], words, given, expected) for words, given, expected in MARKED]
 failed = 0
-for name, given, expected in CASES:
-    line = subprocess.run(sys.argv[1:], input=given, capture_output=True, check=True).stdout.decode()
+for name, words, given, expected in ALL:
+    line = subprocess.run(sys.argv[1:] + words, input=given, capture_output=True, check=True).stdout.decode()
     if line != expected + "\n":
         failed += 1
         print(f"{name}: {line!r}, and not {expected!r}")
-print(f"{len(CASES) - failed} passed, {failed} failed")
+print(f"{len(ALL) - failed} passed, {failed} failed")
 sys.exit(failed != 0)

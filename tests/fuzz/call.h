@@ -1,4 +1,4 @@
-/* One input of the fuzzer: a call of the engine, or of the assembler or the lister. */
+/* One input of the fuzzer: a call of the engine, or of the assembler, or of the lister and the profile. */
 #ifndef CALL_H
 #define CALL_H
 
@@ -10,6 +10,7 @@ enum { DECK_ROOM = 3 * DECK_MOST }; /* for decks that are too long too */
 typedef struct {
     const uint8_t *deck;
     size_t deck_len, requests_len, state_len;
+    uint32_t marking;
     sections has; /* the deck's, all 0 where it is not whole */
     bool shown;   /* by the bench host in full, and not in a line */
 } call;
@@ -17,7 +18,7 @@ typedef struct {
 /* The call that a fuzzer's bytes stand for. It is good until the next. */
 call shape(const uint8_t *bytes, size_t length);
 
-/* The refusal among 9 and 1-4 that 01 gives the call, or 0 for one that is run. */
+/* The refusal among 9, 24 and 1-4 that the papers give the call, or 0 for one that is run. */
 unsigned refusal(const call *made);
 
 /* Runs the engine on the call and holds what it leaves to 01. */
@@ -28,6 +29,9 @@ enum { CALLS_ENGINE, CALLS_ASSEMBLER, CALLS_LISTER };
 
 /* Calls the assembler or the lister on a fuzzer's bytes and holds what it leaves to the paper. */
 void check_listing(const uint8_t *bytes, size_t length);
+
+/* Calls the check of the service profile on words that the lister answered so. */
+void check_profile(const uint8_t *words, size_t length, listing_report listed);
 
 /* A buffer of this length, the same one each time for the number: the end or the start of it is against a page that
    cannot be touched. */

@@ -1,4 +1,4 @@
-/* What 01 promises of every call. Each is made twice: with the end of each buffer against a page that cannot be
+/* What the papers promise of every call. Each is made twice: with the end of each buffer against a page that cannot be
    touched, and with its start, so that no access beyond a lent buffer passes, the engine's or this program's. */
 #define _DEFAULT_SOURCE
 #include "call.h"
@@ -8,7 +8,7 @@
 #include <string.h>
 #include <sys/mman.h>
 
-enum { PAGE = 4096, ROOM = DECK_ROOM };
+enum { PAGE = 4096, ROOM = DECK_ROOM, MARKS = 37, SYNC = 2, IACK = 4 };
 const uint8_t fills[2] = {0xC3, 0x3C}; /* no request and no state in range has such bytes only */
 
 /* What a run left. */
@@ -66,7 +66,7 @@ static left run_once(const call *made, bool at_end)
     memcpy(deck, made->deck, made->deck_len);
     memset(ran.requests, fills[at_end], made->requests_len);
     memset(ran.state, fills[at_end], made->state_len);
-    ran.is = run(deck, made->deck_len, ran.requests, made->requests_len, ran.state, made->state_len);
+    ran.is = run(deck, made->deck_len, ran.requests, made->requests_len, ran.state, made->state_len, made->marking);
     plant(&ran);
     expect(!memcmp(deck, made->deck, made->deck_len), "the deck is unchanged");
     return ran;
@@ -87,7 +87,7 @@ static void check_state(const uint8_t *state)
 {
     uint8_t deck[2 + 2 + 2 + STATE_BYTES + 2] = {0, 0, 0, 0, 1}, requests[1], again[STATE_BYTES];
     memcpy(deck + 6, state, STATE_BYTES);
-    report is = run(deck, sizeof deck, requests, 0, again, sizeof again);
+    report is = run(deck, sizeof deck, requests, 0, again, sizeof again, MARKING_CP1661B);
     expect(is.answer == ANSWER_DONE && is.attempts == 0 && is.microcycles == 0, "the state is in range");
     expect(!memcmp(again, state, STATE_BYTES), "without samples the state stays");
 }
@@ -96,13 +96,27 @@ static void check_state(const uint8_t *state)
 static void check_counts(const call *made, unsigned due, report is)
 {
     bool refused = is.answer == ANSWER_NO_WORD || is.answer == ANSWER_CODE || is.answer == ANSWER_OPTION;
-    expect(due ? is.answer == due : is.answer == ANSWER_DONE || refused, "the answer is the one of 01");
+    expect(due ? is.answer == due : is.answer == ANSWER_DONE || refused, "the answer is the one of the papers");
     if (due)
         expect(is.attempts == 0 && is.microcycles == 0, "nothing was attempted");
     else
         expect(refused ? is.attempts < made->has.samples : is.attempts == made->has.samples,
                "attempts are the samples, or fewer when one is refused");
     expect(is.microcycles >= is.attempts && is.microcycles <= 2 * is.attempts, "an attempt costs 1 or 2");
+}
+
+/* With the other marking the same comes of it, but that CP1621B may let SYNC and IACK fall. */
+static void check_marking(const call *made, const left *ran)
+{
+    bool q1 = made->marking == MARKING_CP1621B;
+    call other = *made;
+    other.marking = q1 ? MARKING_CP1661B : MARKING_CP1621B;
+    left then = run_once(&other, true);
+    uint8_t *without = q1 ? then.state : ran->state, *with = q1 ? ran->state : then.state;
+    with[MARKS] |= without[MARKS] & (SYNC | IACK);
+    expect(!memcmp(&ran->is, &then.is, sizeof(report)), "the marking changes no count");
+    expect(!memcmp(ran->requests, then.requests, then.is.attempts * (size_t)REQUEST_BYTES), "the marking changes no request");
+    expect(!memcmp(with, without, STATE_BYTES), "CP1621B lets SYNC and IACK fall, and no more");
 }
 
 void check(const call *made)
@@ -127,4 +141,5 @@ void check(const call *made)
     expect(!memcmp(ran[0].state, ran[1].state, STATE_BYTES), "the same call leaves the same state");
     check_requests(&ran[0]);
     check_state(ran[0].state);
+    check_marking(made, &ran[0]);
 }

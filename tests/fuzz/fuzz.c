@@ -1,5 +1,5 @@
-/* The fuzzer's entry: each input is a call of the engine, held to 01, and a deck for the bench host; or a call of the
-   assembler or the lister. */
+/* The fuzzer's entry: each input is a call of the engine, held to the papers, and a deck for the bench host; or a call of the
+   assembler, or of the lister and the check of the service profile. */
 #define _GNU_SOURCE
 #include "call.h"
 

@@ -125,6 +125,8 @@ void check_listing(const uint8_t *bytes, size_t length)
         input = stretched(input, number);
     listing_report is = twice(called, input, ample(called, input), kept);
     expect(is.answer != LISTING_ROOM, "there was room");
+    if (called == list_words)
+        check_profile(input.bytes, input.length, is);
     check_rooms(called, input, is, number);
     if (is.answer == 0)
         there_and_back(called == assemble ? (part){kept, is.length} : input);

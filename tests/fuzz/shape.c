@@ -1,8 +1,9 @@
-/* Calls from a fuzzer's bytes: six that say how the call is made, then the deck.
+/* Calls from a fuzzer's bytes: seven that say how the call is made, then the deck.
 
      0    see the enum         1    bytes that the request buffer has more than the samples need, signed
      2    bytes of the state buffer
      3    the section to stretch, 0 words, 1 rows, 2 samples      4-5    to this many items
+     6    the marking: even CP1661B, odd CP1621B; from UNKNOWN on with a bit turned
 
    A bit flipped anywhere in a deck is mostly a refusal. So the deck is mended unless RAW is set: a section has
    what the bytes are enough for, and no unused bit. A whole deck in range stays as it is. */
@@ -11,7 +12,7 @@
 #include <string.h>
 
 /* What takes long has more bits, all of which are to be set. */
-enum { RAW = 1, OTHER_REQUESTS = 2, OTHER_STATE = 4, STRETCH = 0x38, SHOWN = 0xC0, HEAD = 6 };
+enum { RAW = 1, OTHER_REQUESTS = 2, OTHER_STATE = 4, STRETCH = 0x38, SHOWN = 0xC0, UNKNOWN = 0xE0, HEAD = 7 };
 enum { WORDS, ROWS, STATE, SAMPLES, SECTIONS };
 enum { STRETCH_MOST = DECK_MOST + 4 };
 
@@ -93,13 +94,20 @@ static size_t mend(material from, uint8_t *to, const uint8_t *head)
     return length;
 }
 
+/* The two markings are two bits apart. */
+static uint32_t marking(uint8_t by)
+{
+    uint32_t known = by % 2 ? MARKING_CP1621B : MARKING_CP1661B;
+    return by < UNKNOWN ? known : known ^ (uint32_t)1 << by % 32;
+}
+
 call shape(const uint8_t *bytes, size_t length)
 {
     static uint8_t deck[DECK_ROOM];
     material from = {bytes, length < DECK_MOST ? length : DECK_MOST};
     uint8_t head[HEAD];
     take(&from, head, HEAD);
-    call made = {.deck = deck, .deck_len = from.left, .state_len = STATE_BYTES, .shown = set(head, SHOWN)};
+    call made = {.deck = deck, .deck_len = from.left, .state_len = STATE_BYTES, .marking = marking(head[6]), .shown = set(head, SHOWN)};
     if (set(head, RAW))
         memcpy(deck, from.at, from.left);
     else
@@ -124,6 +132,8 @@ unsigned refusal(const call *made)
     size_t counts[SECTIONS] = {deck->words, deck->rows, 1, deck->samples}, starts[SECTIONS], at = 0;
     if (!deck->state || made->deck_len > DECK_MOST || made->state_len != STATE_BYTES)
         return ANSWER_DECK;
+    if (made->marking != MARKING_CP1661B && made->marking != MARKING_CP1621B)
+        return ANSWER_MARKING;
     mend((material){made->deck, made->deck_len}, mended, plain);
     bool over[SECTIONS] = {deck->words > 2048, deck->rows > 128, false,
                            made->requests_len / REQUEST_BYTES < deck->samples};

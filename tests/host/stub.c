@@ -1,6 +1,6 @@
 /* In the place of engine and lister where a memory checker cannot run programs for its processor. The engine gives the answer in the
-   environment's ANSWER: an attempt for each place, or two fewer where attempts are refused, with every kind of
-   request in turn and one that does not exist, and a state of ones. */
+   environment's ANSWER, whatever the marking: an attempt for each place, or two fewer where attempts are refused, with every
+   kind of request in turn and one that does not exist, and a state of ones. */
 #include "../../host/chuenphrao.h"
 
 #include <stdio.h>
@@ -8,8 +8,9 @@
 #include <string.h>
 
 report run(const uint8_t *deck, size_t deck_len, uint8_t *requests, size_t requests_len, uint8_t *state,
-           size_t state_len)
+           size_t state_len, uint32_t marking)
 {
+    (void)marking;
     const char *wanted = getenv("ANSWER");
     report made = {.answer = (uint32_t)atoi(wanted ? wanted : "0")};
     unsigned places = (unsigned)(requests_len / REQUEST_BYTES);

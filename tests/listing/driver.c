@@ -12,7 +12,7 @@ enum { ASSEMBLE, LIST };
 /* What no function may touch. */
 enum { AROUND_OUTPUT = 1, AROUND_INPUT = 2, INPUT = 4 };
 
-static void answer(const uint32_t numbers[3])
+static void answer(const uint32_t *numbers)
 {
     buffer input = guarded(numbers[1]), output = guarded(numbers[2]), copy = guarded(input.len);
     get(input.bytes, input.len);
@@ -37,5 +37,5 @@ static void answer(const uint32_t numbers[3])
 
 int main(void)
 {
-    return serve(answer);
+    return serve(3, answer);
 }

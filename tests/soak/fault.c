@@ -6,7 +6,7 @@
 #include <stdlib.h>
 #include <string.h>
 
-report __real_run(const uint8_t *, size_t, uint8_t *, size_t, uint8_t *, size_t);
+report __real_run(const uint8_t *, size_t, uint8_t *, size_t, uint8_t *, size_t, uint32_t);
 
 static long this_call(void)
 {
@@ -19,10 +19,10 @@ static long this_call(void)
 }
 
 report __wrap_run(const uint8_t *deck, size_t deck_len, uint8_t *requests, size_t requests_len, uint8_t *state,
-                  size_t state_len)
+                  size_t state_len, uint32_t marking)
 {
     const char *fault = getenv("FAULT");
-    report is = __real_run(deck, deck_len, requests, requests_len, state, state_len);
+    report is = __real_run(deck, deck_len, requests, requests_len, state, state_len, marking);
     if (!strcmp(fault, "always"))
         is.microcycles++;
     if (this_call() != atol(getenv("AT")))

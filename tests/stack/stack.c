@@ -1,6 +1,6 @@
-/* How much stack `run`, `assemble` and `list_words` take. Each is called on a stack of its own, painted before, and the
-   deepest byte that it changed tells: stack BOUND. Each kind of deck, and a listing there and back, has to get its answer
-   and take less than BOUND bytes. */
+/* How much stack `run`, `assemble`, `list_words` and `profile` take. Each is called on a stack of its own, painted before, and the
+   deepest byte that it changed tells: stack BOUND. Each kind of deck, a listing there and back, and its words' profile have
+   to get their answer and take less than BOUND bytes. */
 #define _DEFAULT_SOURCE
 #include "../../host/chuenphrao.h"
 
@@ -15,15 +15,16 @@ enum { ROOM = 1 << 20, PAGE = 4096, CODES = 256 };
 enum { REPLY = 1, COMPUTE = 4, RESET = 8, LTSR = 4, JUMP_TO_0 = 0, NOP = 0xFF00 };
 
 /* Words, rows and samples are all alike: rows match always, and raise these lines; of a sample's lines these are not as in one
-   with COMPUTE alone. */
+   with COMPUTE alone. TR has Q1 true, and the marking is CP1621B where no other is given. */
 typedef struct {
     const char *name;
     uint32_t answer;
-    unsigned words, word, rows, raised, more_states, g, outputs, samples, lines, places_missing;
+    unsigned words, word, rows, raised, more_states, g, outputs, samples, lines, places_missing, marking;
 } kind;
 
 static uint8_t deck[2 * DECK_MOST], requests[DECK_MOST], state[STATE_BYTES];
 static size_t deck_len, requests_len;
+static uint32_t marking;
 static uint8_t *room, paint;
 static size_t taken;
 static report is;
@@ -50,17 +51,19 @@ static void make(const kind *of)
     for (unsigned i = 0; i < 1 + of->more_states; i++, deck_len += STATE_BYTES) {
         memset(deck + deck_len, 0, STATE_BYTES);
         deck[deck_len + 26] = (uint8_t)of->g;
+        deck[deck_len + 33] = 0x20; /* TR13 */
         deck[deck_len + 41] = (uint8_t)of->outputs;
     }
     put(of->samples, 2);
     for (unsigned i = 0; i < of->samples; i++)
         put((of->lines ^ COMPUTE) << 16, SAMPLE_BYTES);
     requests_len = (of->samples - of->places_missing) * (size_t)REQUEST_BYTES;
+    marking = of->marking ? of->marking : MARKING_CP1621B;
 }
 
 static void run_deck(void)
 {
-    is = run(deck, deck_len, requests, requests_len, state, sizeof state);
+    is = run(deck, deck_len, requests, requests_len, state, sizeof state, marking);
 }
 
 static void (*work)(void) = run_deck;
@@ -132,6 +135,15 @@ static void assemble_again(void)
     told = assemble(text, text_len, microcode, sizeof microcode);
 }
 
+/* 2,048 words, all JMP but the last, which is CAD. */
+static void look_through(void)
+{
+    memset(microcode, 0, sizeof microcode);
+    microcode[sizeof microcode - WORD_BYTES + 1] = 0xAC;
+    profile_report found = profile(microcode, sizeof microcode);
+    told.answer = found.answer != PROFILE_BROKEN || found.address != WORDS_MOST - 1 || found.rule != 4;
+}
+
 static bool part_fits(const char *name, void (*part)(void), size_t bound)
 {
     work = part;
@@ -143,6 +155,9 @@ static bool part_fits(const char *name, void (*part)(void), size_t bound)
 static const kind kinds[] = {
     {.name = "no words, rows or samples"},
     {.name = "no rows", .words = 2048, .word = NOP, .samples = 2048},
+    {.name = "RMW, Q1", .words = 2048, .word = 0xE242, .samples = 2048, .lines = REPLY},
+    {.name = "RMW, CP1661B", .words = 2048, .word = 0xE242, .samples = 2048, .lines = REPLY, .marking = MARKING_CP1661B},
+    {.name = "unknown marking", .answer = 24, .words = 1, .rows = 128, .g = 8, .samples = 1, .marking = 1},
     {.name = "128 rows", .words = 2048, .word = NOP, .rows = 128, .raised = LTSR, .samples = 2048},
     {.name = "long, no rows", .words = 1, .word = JUMP_TO_0, .samples = 16370},
     {.name = "long, 128 rows", .words = 2048, .word = JUMP_TO_0, .rows = 128, .samples = 13811},
@@ -186,6 +201,7 @@ int main(int count, char **words)
     hold(codes_fit(bound));
     hold(part_fits("2,048 lines listed", list, bound));
     hold(part_fits("2,048 lines assembled", assemble_again, bound));
+    hold(part_fits("the profile of 2,048 words", look_through, bound));
     printf("%u passed, %u failed\n", passed, failed);
     return failed != 0;
 }

@@ -147,13 +147,14 @@ static bool differs(const char *what, bool wrong)
     return wrong;
 }
 
-/* A run of these words from a state: the registers, C and V are as expected, the rest as demand 3 says. */
+/* A run of these words from a state, under either marking: the registers, C and V are as expected, the rest as demand 3 says. */
 static bool ran(const uint32_t *words, unsigned steps, unsigned cycles, uint8_t *state, const uint8_t *expected, bool c, bool v)
 {
     static uint8_t deck[65536];
     uint8_t after[STATE_BYTES], places[56];
     memset(places, 0xEE, sizeof places);
-    report r = run(deck, make_deck(deck, words, steps, state), places, 4 * steps, after, sizeof after);
+    uint32_t marking = random_below(2) ? MARKING_CP1661B : MARKING_CP1621B;
+    report r = run(deck, make_deck(deck, words, steps, state), places, 4 * steps, after, sizeof after, marking);
     unsigned lc = state[LC] + 256 * state[LC + 1] + steps;
 
     bool wrong = differs("the answer", r.answer != 0 || r.attempts != steps || r.microcycles != cycles);

@@ -48,6 +48,7 @@ executedOf xs k w sample o =
       bus = e .back .bus;
       latches = e .back .latches;
       outputs = w .user;
+      marking = k .marking;
     })
     (e .back .request)
     (cyclesOf (w .code))
@@ -69,6 +70,7 @@ resetOf k =
       bus = busWith (k .bus .m) false false;
       latches = used (k .latches);
       outputs = k .outputs;
+      marking = k .marking;
     }
 
 -- "a waiting modification is ORed into its low 16 bits"

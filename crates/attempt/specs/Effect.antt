@@ -2,7 +2,7 @@
 use Prim.Native.Nat.{ℕ}
 use mathlib.Core.List.{List}
 use Rattle.code.specs.declared.Operands.{Operands}
-use Rattle.control.specs.Bus.{busAfter, requestOf}
+use Rattle.control.specs.Bus.{rmwOf, busAfter, requestOf}
 use Rattle.control.specs.Latches.{used, latchesAfter}
 use Rattle.control.specs.Next.{wayOf}
 use Rattle.control.specs.declared.Way.{Way}
@@ -39,7 +39,7 @@ registerEffect xs core code b a sample =
     leaves (m .file)
     (record {
       flags = m .back;
-      bus = busAfter (core .bus) code b pair;
+      bus = busAfter (core .bus) code (rmwOf (core .marking) (core .latches .tr) b) pair;
       latches = latchesAfter (core .latches) code b ra pair sample;
       way = Way.Onward;
       request = requestOf code pair (sample .dal);

@@ -34,6 +34,7 @@ doneBy row k w e o =
       bus = e .bus;
       latches = e .latches;
       outputs = w .user;
+      marking = k .marking;
     })
     (e .request)
     (row .cycles)

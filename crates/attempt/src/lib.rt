@@ -115,7 +115,8 @@ fn input(file: &mut [u8; 26], core: Core, code: u8, b: u8, a: u8, sample: Sample
     let l = core.latches;
     let before = core.flags;
     let held = core.bus;
-    let bus = control::bus_after(held, code, b, 0);
+    let marking = core.marking;
+    let bus = control::bus_after(held, code, control::rmw(marking, l.tr, b), 0);
     let latches = control::latches_after_input(l, code, b, sample);
     let request = control::request(code, 0, sample.dal);
     let flags = execute::input(file, l.g, before, code, sample.dal, held.m, b, a);
@@ -159,7 +160,7 @@ fn access(file: &mut [u8; 26], core: Core, code: u8, b: u8, a: u8, sample: Sampl
     let ra = state::register(file, l.g, a);
     let rb = state::register(file, l.g, b);
     let value = numbers::pair(ra, rb);
-    let bus = control::bus_after(held, code, b, value);
+    let bus = control::bus_after(held, code, false, value);
     let latches = control::used(l);
     let request = control::request(code, value, sample.dal);
     let flags = execute::access(file, l.g, before, code, b, a);
@@ -193,12 +194,14 @@ fn done(row: CodeRow, core: Core, fields: Fields, e: Effect, o: Outputs) -> Outc
     let flags = e.flags;
     let bus = e.bus;
     let latches = e.latches;
+    let marking = core.marking;
     let after = Core {
         flags,
         address,
         bus,
         latches,
         outputs: fields.user,
+        marking,
     };
     outcome_of(after, e.request, row.cycles, 0)
 }
@@ -321,12 +324,14 @@ fn reset(core: Core) -> Core
         sync: false,
         iack: false,
     };
+    let marking = core.marking;
     Core {
         flags,
         address,
         bus,
         latches,
         outputs: core.outputs,
+        marking,
     }
 }
 

@@ -26,12 +26,12 @@ use Rattle.state.specs.File.{Leaves, registerOf}
 use Rattle.state.specs.declared.Core.{Core}
 use Rattle.state.specs.declared.Latches.{Latches}
 use Rattle.state.specs.declared.Sample.{Sample}
-use Rattle.attempt_laws.specs.After.{pairIn, raIn, rowsSee, AddressIs, BusIs, requestIs, LatchesAre, outputsAfter, costIs}
+use Rattle.attempt_laws.specs.After.{pairIn, raIn, rowsSee, AddressIs, isRmw, BusIs, requestIs, LatchesAre, outputsAfter, costIs}
 use Rattle.attempt_laws.specs.Fate.{Fate, refused, waited, reset, compute-low, completed, noCode, noOption, mustWait}
 use Rattle.attempt_laws.specs.Fate.{within, topIn, bIn, wordFate, takenWord, fateOf, afterReset, ends, EndsAs}
 use Rattle.attempt_laws.proofs.Fate.{attempt-fate}
 use Rattle.attempt_laws.proofs.Next.{past-is, jump-is, conditional-is, address-is, rows-see}
-use Rattle.attempt_laws.proofs.Bus.{bus-left, bus-is, request-none, request-is}
+use Rattle.attempt_laws.proofs.Bus.{rmw-is, bus-left, bus-is, request-none, request-is}
 use Rattle.attempt_laws.proofs.Latches.{latches-left, latches-are}
 use Rattle.attempt_laws.proofs.Where.{other, _next_, ranged-where, inside}
 
@@ -70,7 +70,7 @@ module _ (P : Leaves Outcome → Type 0) (xs : List ℕ) (k : Core) (s : Sample)
 
 -- ---- a completed word is there, and its b is listed
 
-completed-there : (ws : List ℕ) (k : Core) (s : Sample) → fateOf ws k s ≡ completed
+pub completed-there : (ws : List ℕ) (k : Core) (s : Sample) → fateOf ws k s ≡ completed
     → (ltb (k .address .lc) (length ws / 4) ≡ true) × (wordFate (takenWord ws k) s ≡ completed)
 unfolding fateOf
 completed-there ws k s e = go (s .reset) (s .compute) (ltb (k .address .lc) (length ws / 4)) e
@@ -171,17 +171,20 @@ module _ (ws : List ℕ) (rs : List Row) (xs : List ℕ) (k : Core) (s : Sample)
         register = λ h. by _ (topIn word) (past-is word k o (omega arith)) refl;
       }))
 
+  abbrev rmw : Bool
+  rmw = isRmw (k .marking) (k .latches .tr) (bIn word)
+
   -- M, SYNC and IACK
-  pub attempt-bus : fateOf ws k s ≡ completed → BusIs (topIn word) (bIn word) rb-ra (k .bus) (attemptOf ws rs xs k s .back .core .bus)
+  pub attempt-bus : fateOf ws k s ≡ completed → BusIs (topIn word) rmw rb-ra (k .bus) (attemptOf ws rs xs k s .back .core .bus)
   unfolding executedOf effectOf fieldsIn operandsIn jumpedOf literalEffect registerEffect registerOf
   attempt-bus completes =
-      let left : topIn word < 0x70 → BusIs (topIn word) (bIn word) rb-ra (k .bus) (k .bus) = λ h. bus-left _ _ _ _ (omega arith) in
-      completed-all (λ e. BusIs (topIn word) (bIn word) rb-ra (k .bus) (e .back .core .bus)) completes
+      let left : topIn word < 0x70 → BusIs (topIn word) rmw rb-ra (k .bus) (k .bus) = λ h. bus-left _ _ _ _ (omega arith) in
+      completed-all (λ e. BusIs (topIn word) rmw rb-ra (k .bus) (e .back .core .bus)) completes
       (record {
         jump = λ h. left (omega arith);
         conditional = λ lo hi. left (omega arith);
         literal = λ lo hi. left hi;
-        register = λ h. bus-is _ _ _ _ (small-b completes);
+        register = λ h. bus-is _ _ _ _ _ (λ lo hi. rmw-is (k .marking) (k .latches .tr) (bIn word) (small-b completes lo hi));
       })
 
   -- its request
@@ -231,3 +234,15 @@ module _ (ws : List ℕ) (rs : List Row) (xs : List ℕ) (k : Core) (s : Sample)
       go e reset q = rw q
       go e compute-low q = rw q
       go e completed (w, a, q) = rw (q, ← apart-is word w a .2)
+
+  -- "A run names its marking": no attempt changes it
+  pub attempt-marking : attemptOf ws rs xs k s .back .core .marking ≡ k .marking
+  unfolding executedOf
+  attempt-marking = go (attemptOf ws rs xs k s) (fateOf ws k s) (attempt-fate ws rs xs k s)
+    where
+      go : (e : Leaves Outcome) (f : Fate) → EndsAs word xs k s (outputsOf ws rs k s) e f → e .back .core .marking ≡ k .marking
+      go e (refused n) (z, q) = rw q
+      go e waited q = rw q
+      go e reset q = rw q
+      go e compute-low q = rw q
+      go e completed (w, a, q) = rw q

@@ -8,24 +8,66 @@ use Rattle.choose.proofs.Table.{below}
 use Rattle.choose.proofs.Tests.{equal-tests}
 use Rattle.choose.specs.Below.{allBelow}
 use Rattle.choose.specs.Ranged.{pick}
-use Rattle.control.specs.Bus.{busWith, afterInput, busAfter, requestOf}
+use Rattle.control.specs.Bus.{busWith, trBit, q1Of, rmwOf, afterInput, busAfter, requestOf}
 use Rattle.state.specs.declared.Bus.{Bus}
-use Rattle.attempt_laws.specs.After.{dropsLines, BusIs, kindOf, requestIs}
+use Rattle.state.specs.declared.Marking.{Marking}
+use Rattle.attempt_laws.specs.After.{q1, isRmw, dropsLines, BusIs, kindOf, requestIs}
 use Rattle.attempt_laws.specs.Fate.{within}
 use Rattle.attempt_laws.proofs.Where.{other, _next_, ranged-where, Outside, inside, outside}
 
+-- ---- RMW
+
+-- Q1 by the bits of its terms
+q1-is : (tr : ℕ) → q1 tr ≡ q1Of tr
+unfolding q1Of
+q1-is tr = go (trBit 14 tr) (trBit 13 tr) (trBit 12 tr) (trBit 11 tr) (trBit 10 tr) (trBit 9 tr) (trBit 8 tr) (trBit 7 tr) (trBit 6 tr)
+  where
+    is : Bool → Bool → Bool → Bool
+    is b t rest = Bool·beq b t && rest
+
+    go : (b14 b13 b12 b11 b10 b9 b8 b7 b6 : Bool)
+        → is b14 false (is b13 true true)
+        || is b14 false (is b12 false (is b11 true (is b10 false (is b9 true (is b8 true (is b7 true (is b6 true true)))))))
+        ≡ (not b14 && b13) || (not b14 && not b12 && b11 && not b10 && b9 && b8 && b7 && b6)
+    go true b13 b12 b11 b10 b9 b8 b7 b6 = refl
+    go false true b12 b11 b10 b9 b8 b7 b6 = refl
+    go false false true b11 b10 b9 b8 b7 b6 = refl
+    go false false false false b10 b9 b8 b7 b6 = refl
+    go false false false true true b9 b8 b7 b6 = refl
+    go false false false true false false b8 b7 b6 = refl
+    go false false false true false true false b7 b6 = refl
+    go false false false true false true true false b6 = refl
+    go false false false true false true true true true = refl
+    go false false false true false true true true false = refl
+
+-- b that is no option is refused before
+pub rmw-is : (marking : Marking) (tr b : ℕ) → b < 8 → isRmw marking tr b ≡ rmwOf marking tr b
+unfolding isRmw rmwOf
+rmw-is marking tr b small = go marking
+  where
+    four : within 4 7 b ≡ eqb (b / 4 % 2) 1
+    four = equal-tests _ _ (below 8 (λ n. Bool·beq (within 4 7 n) (eqb (n / 4 % 2) 1)) tt b small)
+
+    all : (t : Bool) → t && true ≡ t
+    all true = refl
+    all false = refl
+
+    go : (m : Marking) → isRmw m tr b ≡ rmwOf m tr b
+    go Marking.CP1661B = rw four (all (eqb (b / 4 % 2) 1))
+    go Marking.CP1621B = rw (four, q1-is tr)
+
 -- ---- the bus
 
-module _ (code b pair : ℕ) (h : Bus) where
+module _ (code : ℕ) (rmw : Bool) (pair : ℕ) (h : Bus) where
   abbrev Right : Bus → Type 0
-  Right = BusIs code b pair h
+  Right = BusIs code rmw pair h
 
   -- by the lists that the code is in
-  by-lists : {m s a d : Bool} → within 0xF0 0xFE code ≡ m → within 0xF0 0xFB code ≡ s → within 0xFA 0xFB code ≡ a → dropsLines code b ≡ d
+  by-lists : {m s a d : Bool} → within 0xF0 0xFE code ≡ m → within 0xF0 0xFB code ≡ s → within 0xFA 0xFB code ≡ a → dropsLines code rmw ≡ d
       → Right (busWith (pick m pair (h .m)) (pick s true (pick d false (h .sync))) (pick a true (pick d false (h .iack))))
   by-lists p q r e = record { m = rw p; sync = rw (q, e); iack = rw (r, e) }
 
-  drops : {i n o : Bool} → within 0xE0 0xE3 code ≡ i → within 4 7 b ≡ n → within 0xFC 0xFD code ≡ o → dropsLines code b ≡ (i && not n) || o
+  drops : {i n o : Bool} → within 0xE0 0xE3 code ≡ i → rmw ≡ n → within 0xFC 0xFD code ≡ o → dropsLines code rmw ≡ (i && not n) || o
   drops p q r = rw (p, q, r)
 
   -- a code of none of the lists
@@ -34,27 +76,28 @@ module _ (code b pair : ℕ) (h : Bus) where
       by-lists (outside 0xF0 0xFE code ms) (outside 0xF0 0xFB code syncs) (outside 0xFA 0xFB code iacks)
       (drops (outside 0xE0 0xE3 code inputs) refl (outside 0xFC 0xFD code outs))
 
-  input-is : 0xE0 ≤ code → code ≤ 0xE3 → b < 8 → Right (afterInput h b)
+  input-is : 0xE0 ≤ code → code ≤ 0xE3 → (r : Bool) → rmw ≡ r → Right (afterInput h r)
   unfolding afterInput
-  input-is lo hi small = go (eqb (b / 4 % 2) 1) (equal-tests _ _ (below 8 (λ n. Bool·beq (within 4 7 n) (eqb (n / 4 % 2) 1)) tt b small))
+  input-is lo hi = go
     where
       both : (t : Bool) → Right (busWith (h .m) (pick (not t || false) false (h .sync)) (pick (not t || false) false (h .iack)))
           → Right (pick t h (busWith (h .m) false false))
       both true p = p
       both false p = p
 
-      go : (t : Bool) → within 4 7 b ≡ t → Right (pick t h (busWith (h .m) false false))
+      go : (t : Bool) → rmw ≡ t → Right (pick t h (busWith (h .m) false false))
       go t e =
           both t
           (by-lists (outside 0xF0 0xFE code (omega arith)) (outside 0xF0 0xFB code (omega arith)) (outside 0xFA 0xFB code (omega arith))
           (drops (inside 0xE0 0xE3 code (lo, hi)) e (outside 0xFC 0xFD code (omega arith))))
 
-  pub bus-is : (0xE0 ≤ code → code ≤ 0xE3 → b < 8) → Right (busAfter h code b pair)
+  -- RMW counts only of IB and IW
+  pub bus-is : (r : Bool) → (0xE0 ≤ code → code ≤ 0xE3 → rmw ≡ r) → Right (busAfter h code r pair)
   unfolding busAfter
-  bus-is small =
+  bus-is r same =
       ranged-where Right code {from = 0} (omega arith)
       ((λ l u. bus-left (omega arith)) next
-      (λ l u. input-is l (omega arith) (small l (omega arith))) next
+      (λ l u. input-is l (omega arith) r (same l (omega arith))) next
       (λ l u. bus-left (omega arith)) next
       (λ l u.
       by-lists (inside 0xF0 0xFE code (omega arith)) (inside 0xF0 0xFB code (omega arith)) (outside 0xFA 0xFB code (omega arith))

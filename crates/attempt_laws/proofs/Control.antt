@@ -25,13 +25,13 @@ use Rattle.choose.proofs.Choice.{end, _also_, pick-all, ranged-all}
 abbrev pub BusInRange : Bus → Type 0
 BusInRange h = h .m < 65536
 
-after-input-in-range : (h : Bus) (b : ℕ) → BusInRange h → BusInRange (afterInput h b)
+after-input-in-range : (h : Bus) (rmw : Bool) → BusInRange h → BusInRange (afterInput h rmw)
 unfolding afterInput
-after-input-in-range h b l = pick-all BusInRange (eqb (b / 4 % 2) 1) _ _ l l
+after-input-in-range h rmw l = pick-all BusInRange rmw _ _ l l
 
-pub bus-in-range : (h : Bus) (code b pair : ℕ) → BusInRange h → pair < 65536 → BusInRange (busAfter h code b pair)
+pub bus-in-range : (h : Bus) (code : ℕ) (rmw : Bool) (pair : ℕ) → BusInRange h → pair < 65536 → BusInRange (busAfter h code rmw pair)
 unfolding busAfter
-bus-in-range h code b pair l p = ranged-all BusInRange code _ (l also after-input-in-range h b l also l also p also p also p also p also end) l
+bus-in-range h code rmw pair l p = ranged-all BusInRange code _ (l also after-input-in-range h rmw l also l also p also p also p also p also end) l
 
 -- "A request is kind times 65,536 plus a value": kinds of executed words are 0 to 9, values have 16 bits
 abbrev pub RequestInRange : ℕ → Type 0

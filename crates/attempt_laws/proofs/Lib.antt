@@ -13,3 +13,4 @@ pub mod Bus
 pub mod Latches
 pub mod After
 pub mod NoSeven
+pub mod Never

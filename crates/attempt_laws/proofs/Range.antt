@@ -23,6 +23,7 @@ use Rattle.state.specs.declared.Address.{Address}
 use Rattle.state.specs.declared.Bus.{Bus}
 use Rattle.state.specs.declared.Core.{Core}
 use Rattle.state.specs.declared.Latches.{Latches}
+use Rattle.state.specs.declared.Marking.{Marking}
 use Rattle.state.specs.declared.Sample.{Sample}
 use Rattle.attempt.specs.Attempt.{executedOf, resetOf, outputsOf, attemptOf}
 use Rattle.attempt.specs.Effect.{jumpedOf, literalEffect, registerEffect, effectOf}
@@ -38,9 +39,9 @@ use Rattle.attempt.specs.declared.Outcome.{Outcome}
 
 -- ---- the state by its parts
 
-whole : (xs : List ℕ) (f : Flags) (a : Address) (b : Bus) (l : Latches) (u : ℕ) → FileInRange xs → AddressInRange a → BusInRange b → LatchesInRange l
-    → u < 16 → InRange xs (record { flags = f; address = a; bus = b; latches = l; outputs = u })
-whole xs f a b l u x y z w o =
+whole : (xs : List ℕ) (f : Flags) (a : Address) (b : Bus) (l : Latches) (u : ℕ) (m : Marking) → FileInRange xs → AddressInRange a → BusInRange b
+    → LatchesInRange l → u < 16 → InRange xs (record { flags = f; address = a; bus = b; latches = l; outputs = u; marking = m })
+whole xs f a b l u m x y z w o =
     record {
       size = x .size;
       bytes = bytes-each xs (x .bytes);
@@ -72,7 +73,7 @@ module _ (xs : List ℕ) (k : Core) (h : InRange xs k) where
   unfolding resetOf
   reset-in-range =
       let latches = used-in-range (k .latches) latches-part in
-      whole xs _ _ _ _ _ file-part (record { lc = omega arith; rr = h .rr; tsr = h .tsr }) (h .m) latches (h .outputs)
+      whole xs _ _ _ _ _ _ file-part (record { lc = omega arith; rr = h .rr; tsr = h .tsr }) (h .m) latches (h .outputs)
 
 -- ---- an instruction's effect
 
@@ -117,7 +118,7 @@ module _ (xs : List ℕ) (k : Core) (s : Sample) (code : ℕ) (h : InRange xs k)
       let p = pair-in-range b a in
       record {
         file = registers-in-range xs k (s .dal) code b a (file-part xs k h) (d .dal);
-        bus = bus-in-range (k .bus) code b _ (h .m) p;
+        bus = bus-in-range (k .bus) code _ _ (h .m) p;
         latches = latches-in-range (k .latches) (latches-part xs k h) code b _ _ s p (d .dal);
         way = tt;
         request = request-in-range code _ (s .dal) p (d .dal);
@@ -141,7 +142,7 @@ module _ (xs : List ℕ) (k : Core) (s : Sample) (o : Outputs) (w : Fields) (h :
   executed-in-range p =
       let e = effect-in-range xs k s (w .code) h d (f .fitting) in
       let a = address-in-range (k .address) o (address-part xs k h) p _ (w .code) (w .«load_rr») (e .way) in
-      whole _ _ _ _ _ _ (e .file) a (e .bus) (e .latches) (f .in-range)
+      whole _ _ _ _ _ _ _ (e .file) a (e .bus) (e .latches) (f .in-range)
 
 -- ---- an attempt
 

@@ -16,6 +16,7 @@ use Rattle.state.specs.declared.Address.{Address}
 use Rattle.state.specs.declared.Bus.{Bus}
 use Rattle.state.specs.declared.Core.{Core}
 use Rattle.state.specs.declared.Latches.{Latches}
+use Rattle.state.specs.declared.Marking.{Marking}
 use Rattle.state.specs.declared.Sample.{Sample}
 use Rattle.attempt_laws.specs.Fate.{Fate, refused, waited, reset, compute-low, completed}
 use Rattle.attempt_laws.specs.Fate.{within, odd, oneOf, twoCycle, inputWord, userBits, topIn, bIn, aIn}
@@ -83,15 +84,38 @@ pub record AddressIs (word : ℕ) (k : Core) (o : Outputs) (after : Address) : T
 
 -- ---- the bus. Reads and writes are F0-FB, RA and WA FA and FB of them, OB and OW FC and FD, OS FE, IB and IW E0-E3
 
--- "IB, IW drop SYNC and IACK unless b is 4-7 (RMW); OB and OW drop them"
-abbrev pub dropsLines : ℕ → ℕ → Bool
-dropsLines code b = (within 0xE0 0xE3 code && not (within 4 7 b)) || within 0xFC 0xFD code
+-- 02, L14: "Q1 is (not TR14 and TR13) or (not TR14, not TR12, TR11, not TR10, TR9, TR8, TR7 and TR6 together)": each term's bits of TR, and what each is
+abbrev pub firstTerm : List (ℕ × Bool)
+firstTerm = (14, false) ∷ (13, true) ∷ []
+
+abbrev pub secondTerm : List (ℕ × Bool)
+secondTerm = (14, false) ∷ (12, false) ∷ (11, true) ∷ (10, false) ∷ (9, true) ∷ (8, true) ∷ (7, true) ∷ (6, true) ∷ []
+
+abbrev pub together : List (ℕ × Bool) → ℕ → Bool
+together [] tr = true
+together (t ∷ ts) tr = Bool·beq (hasBit (t .0) tr) (t .1) && together ts tr
+
+abbrev pub q1 : ℕ → Bool
+q1 tr = together firstTerm tr || together secondTerm tr
+
+-- "the CP1621B, which has Q1"
+abbrev pub hasQ1 : Marking → Bool
+hasQ1 Marking.CP1661B = false
+hasQ1 Marking.CP1621B = true
+
+-- "b is 4-7 (RMW)"; 02, L14: "With Q1, RMW happens only if Q1 is false, read from TR before the instruction"
+unfoldable pub isRmw : Marking → ℕ → ℕ → Bool
+isRmw marking tr b = within 4 7 b && not (hasQ1 marking && q1 tr)
+
+-- "IB, IW drop SYNC and IACK unless .. RMW; OB and OW drop them"
+abbrev pub dropsLines : ℕ → Bool → Bool
+dropsLines code rmw = (within 0xE0 0xE3 code && not rmw) || within 0xFC 0xFD code
 
 -- "Reads and writes set M and SYNC; RA, WA also IACK. OB, OW, OS set M", with Rb:Ra
-pub record BusIs (code b pair : ℕ) (before after : Bus) : Type 0 where
+pub record BusIs (code : ℕ) (rmw : Bool) (pair : ℕ) (before after : Bus) : Type 0 where
   pub m : after .m ≡ pick (within 0xF0 0xFE code) pair (before .m)
-  pub sync : after .sync ≡ pick (within 0xF0 0xFB code) true (pick (dropsLines code b) false (before .sync))
-  pub iack : after .iack ≡ pick (within 0xFA 0xFB code) true (pick (dropsLines code b) false (before .iack))
+  pub sync : after .sync ≡ pick (within 0xF0 0xFB code) true (pick (dropsLines code rmw) false (before .sync))
+  pub iack : after .iack ≡ pick (within 0xFA 0xFB code) true (pick (dropsLines code rmw) false (before .iack))
 
 -- "0 none, 1 read, 2 write, 3 read acknowledge, 4 write acknowledge .., 5 data in .., 6 word out, 7 byte out, 8 status out .., 9 status in": of
 -- F0-F9 the even codes read and the odd ones write; ISB and ISW are E4-E7

@@ -94,6 +94,14 @@ wordFate word s =
     completed)))
     (refused 2)
 
+-- a number that is none of these
+pub record OtherNumber (n : ℕ) : Type 0 where
+  pub none : n ≡ 0 → ⊥
+  pub two : n ≡ 2 → ⊥
+  pub five : n ≡ 5 → ⊥
+  pub six : n ≡ 6 → ⊥
+  pub eight : n ≡ 8 → ⊥
+
 -- "the word at LC is taken and a waiting modification is ORed into its low 16 bits"
 abbrev pub takenWord : List ℕ → Core → ℕ
 takenWord ws k = modifiedOf (wordAt ws (k .address .lc)) (k .latches)
@@ -119,6 +127,7 @@ afterReset k =
       bus = record { m = k .bus .m; sync = false; iack = false };
       latches = record { g = k .latches .g; tr = k .latches .tr; ics = k .latches .ics; interrupts = k .latches .interrupts; marked = false; modification = 0 };
       outputs = k .outputs;
+      marking = k .marking;
     }
 
 -- the file, the state, the request, the microcycles and the refusal's number

@@ -10,6 +10,7 @@ use Rattle.attempt.specs.declared.Outcome.{Outcome}
 use Rattle.state.specs.File.{Leaves}
 use Rattle.state.specs.Registers.{Register, R, G}
 use Rattle.state.specs.declared.Core.{Core}
+use Rattle.state.specs.declared.Marking.{Marking}
 use Rattle.state.specs.declared.Sample.{Sample}
 
 -- ---- a case
@@ -36,14 +37,15 @@ holding [] = replicate 26 0
 holding (r ∷ rs) = set (holding rs) (placeNamed (r .0)) (r .1)
 
 -- all zero but G and C
-abbrev pub core : ℕ → Bool → Core
-core g c =
+abbrev pub core : Marking → ℕ → Bool → Core
+core marking g c =
     record {
       flags = record { n = false; z = false; v = false; c = c; nb = false; zb = false; c4 = false; c8 = false };
       address = record { lc = 0; rr = 0; tsr = 0 };
       bus = record { m = 0; sync = false; iack = false };
       latches = record { g = g; tr = 0; ics = false; interrupts = 0; marked = false; modification = 0 };
       outputs = 0;
+      marking = marking;
     }
 
 -- COMPUTE alone
@@ -76,13 +78,13 @@ endsWith e cycles file flags =
     shows (e .back .core .flags) flags
 
 -- the word alone at LC 0, no rows
-unfoldable pub caseHolds : Case → Bool
-caseHolds (case g c word cycles before after flags) =
-    endsWith (attemptOf (word % 256 ∷ word / 256 ∷ 0 ∷ 0 ∷ []) [] (holding before) (core g c) computing) cycles (holding after) flags
+unfoldable pub caseHolds : Marking → Case → Bool
+caseHolds marking (case g c word cycles before after flags) =
+    endsWith (attemptOf (word % 256 ∷ word / 256 ∷ 0 ∷ 0 ∷ []) [] (holding before) (core marking g c) computing) cycles (holding after) flags
 
-unfoldable pub allHold : List Case → Bool
-allHold [] = true
-allHold (k ∷ ks) = caseHolds k && allHold ks
+unfoldable pub allHold : Marking → List Case → Bool
+allHold marking [] = true
+allHold marking (k ∷ ks) = caseHolds marking k && allHold marking ks
 
 -- ---- the table: AB, SB, SBC, TCB, AW, SRW and SLB with b 4 and a 2, so Ra is R2 or R3:R2, Rb R4 or R5:R4; for G, LL of 5A hex with a 0 or 1.
 -- 02, L2: "The case SLB of 40 becomes V 1"

@@ -124,7 +124,7 @@ pub fn row_of(top: u8) -> CodeRow
     row_in(&table, top)
 }
 
-fn is_listed(class: Class) -> bool
+pub fn is_listed(class: Class) -> bool
     ensures { λ r. ⌜ r ≡ listed class ⌝ }
 {
     match class {

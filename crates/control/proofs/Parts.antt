@@ -1,6 +1,7 @@
 -- What latches, bus and request are over each range of codes: the arms of a choice that a range can reach.
 use Prim.Native.Nat.{ℕ, zero, suc, _<_, _≤_}
 use mathlib.Core.Path.{_≡_, refl, _∙_, sym}
+use mathlib.Core.Bool.{Bool}
 use mathlib.Core.List.{List, [], _∷_}
 use native.Mathlib.Omega.{arith}
 use lib.Dec.{T, leb, leb→le}
@@ -54,19 +55,24 @@ module _ (l : Latches) (code b ra pair : ℕ) (s : Sample) where
   unfolding latchesAfter
   latches-out h = in-rest _ _ _ 0xF0 tt h
 
-module _ (held : Bus) (code b : ℕ) where
-  pub bus-before-input : (pair : ℕ) → code < 0xE0 → busAfter held code b pair ≡ held
+module _ (held : Bus) (code : ℕ) (rmw : Bool) where
+  pub bus-before-input : (pair : ℕ) → code < 0xE0 → busAfter held code rmw pair ≡ held
   unfolding busAfter
   bus-before-input pair h = in-arm _ _ _ 0 0 tt (omega arith) h
 
-  pub bus-load : (pair : ℕ) → 0xE8 ≤ code → code < 0xF0 → busAfter held code b pair ≡ held
+  pub bus-load : (pair : ℕ) → 0xE8 ≤ code → code < 0xF0 → busAfter held code rmw pair ≡ held
   unfolding busAfter
   bus-load pair h g = in-arm _ _ _ 2 0xE8 tt h g
 
   -- a pair counts only where it is put out
-  pub bus-without-pair : (p q : ℕ) → code < 0xF0 → busAfter held code b p ≡ busAfter held code b q
+  pub bus-without-pair : (p q : ℕ) → code < 0xF0 → busAfter held code rmw p ≡ busAfter held code rmw q
   unfolding busAfter
   bus-without-pair p q h = arms-to _ _ _ 2 h ∙ sym (arms-to _ _ _ 2 h)
+
+  -- and RMW only where it is an input
+  pub bus-without-rmw : (t : Bool) (pair : ℕ) → 0xF0 ≤ code → busAfter held code rmw pair ≡ busAfter held code t pair
+  unfolding busAfter
+  bus-without-rmw t pair h = arms-from _ _ _ 3 0xF0 tt h ∙ sym (arms-from _ _ _ 3 0xF0 tt h)
 
 module _ (code dal : ℕ) where
   pub request-before-input : (pair : ℕ) → code < 0xE0 → requestOf code pair dal ≡ 0

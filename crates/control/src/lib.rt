@@ -6,10 +6,11 @@ use state::Address;
 use state::Bus;
 use state::Core;
 use state::Latches;
+use state::Marking;
 use state::Sample;
 ghost use mathlib.Core.Path.{_≡_};
 ghost use Prim.Native.Nat.{_≤_};
-ghost use Rattle.control.specs.Bus.{busWith, afterInput, busAfter, placed, requestOf};
+ghost use Rattle.control.specs.Bus.{busWith, q1Of, rmwOf, afterInput, busAfter, placed, requestOf};
 ghost use Rattle.control.specs.Latches.{used, withInterrupts, withModification, withLoaded, inputLatchesOf};
 ghost use Rattle.control.specs.Parts.{latchesAfter70To77, latchesAfterInput, latchesAfterLoad};
 ghost use Rattle.rows.specs.Scan.{none};
@@ -21,22 +22,49 @@ fn bus_with(m: u16, sync: bool, iack: bool) -> Bus
     Bus { m, sync, iack }
 }
 
-// IB and IW: b 4-7 is RMW, which keeps the bus.
-fn after_input(held: Bus, b: u8) -> Bus
-    ensures { λ r. ⌜ r ≡ afterInput held b ⌝ }
+// Of bits 14 to 6 of TR.
+pub fn q1(tr: u16) -> bool
+    ensures { λ r. ⌜ r ≡ q1Of tr ⌝ }
 {
-    if b / 4 % 2 == 1 {
+    let tr14 = tr / 0x4000 % 2 == 1;
+    let tr13 = tr / 0x2000 % 2 == 1;
+    let tr12 = tr / 0x1000 % 2 == 1;
+    let tr11 = tr / 0x800 % 2 == 1;
+    let tr10 = tr / 0x400 % 2 == 1;
+    let tr9 = tr / 0x200 % 2 == 1;
+    let tr8 = tr / 0x100 % 2 == 1;
+    let tr7 = tr / 0x80 % 2 == 1;
+    let tr6 = tr / 0x40 % 2 == 1;
+    (!tr14 & tr13) | (!tr14 & !tr12 & tr11 & !tr10 & tr9 & tr8 & tr7 & tr6)
+}
+
+// IB and IW: b 4-7 is RMW, with CP1621B only while Q1 is false.
+pub fn rmw(marking: Marking, tr: u16, b: u8) -> bool
+    ensures { λ r. ⌜ r ≡ rmwOf marking tr b ⌝ }
+{
+    let asked = b / 4 % 2 == 1;
+    match marking {
+        Marking::CP1661B => asked,
+        Marking::CP1621B => asked & !q1(tr),
+    }
+}
+
+// RMW keeps the bus.
+fn after_input(held: Bus, rmw: bool) -> Bus
+    ensures { λ r. ⌜ r ≡ afterInput held rmw ⌝ }
+{
+    if rmw {
         return held;
     }
     bus_with(held.m, false, false)
 }
 
-pub fn bus_after(held: Bus, code: u8, b: u8, pair: u16) -> Bus
-    ensures { λ r. ⌜ r ≡ busAfter held code b pair ⌝ }
+pub fn bus_after(held: Bus, code: u8, rmw: bool, pair: u16) -> Bus
+    ensures { λ r. ⌜ r ≡ busAfter held code rmw pair ⌝ }
 {
     match code {
         0x00..=0xDF => held,
-        0xE0..=0xE3 => after_input(held, b),
+        0xE0..=0xE3 => after_input(held, rmw),
         0xE4..=0xEF => held,
         0xF0..=0xF9 => bus_with(pair, true, held.iack),
         0xFA..=0xFB => bus_with(pair, true, true),

@@ -17,6 +17,7 @@ use Rattle.choose.specs.Below.{allBelow}
 use Rattle.numbers.proofs.Laws.{take-bytes, drop-bytes}
 use Rattle.rows.specs.Section.{rowsOf}
 use Rattle.rows.specs.Range.{rowsInRange}
+use Rattle.state.specs.Marking.{isMarking}
 use Rattle.state_bytes.specs.Bytes.{stateBytes}
 use Rattle.state_bytes.specs.Range.{stateInRange}
 use Rattle.deck.specs.Sections.{countAt, sectionEnd, layoutOf, wholeOf, sectionOf, wordsPart, rowsPart, statePart, samplesPart}
@@ -95,11 +96,12 @@ passed : (t : Bool) (number rest : ℕ) → 0 < number → unless t number rest 
 passed true number rest l h = (refl, h)
 passed false number rest l h = absurd (omega arith)
 
-pub accepted : (s : List ℕ) (requests buffer : ℕ) → deckRefusalOf s requests buffer ≡ 0 → Accepted s requests buffer
+pub accepted : (s : List ℕ) (requests buffer marking : ℕ) → deckRefusalOf s requests buffer marking ≡ 0 → Accepted s requests buffer marking
 unfolding deckRefusalOf
-accepted s requests buffer h =
+accepted s requests buffer marking h =
     let nine = passed (wholeOf s && eqb buffer stateBytes) 9 _ (omega arith) h in
-    let one = passed (stateInRange (statePart s)) 1 _ (omega arith) (nine .1) in
+    let known = passed (isMarking marking) 24 _ (omega arith) (nine .1) in
+    let one = passed (stateInRange (statePart s)) 1 _ (omega arith) (known .1) in
     let two = passed (wordsInRange (wordsPart s)) 2 _ (omega arith) (one .1) in
     let three = passed (rowsPartInRange (rowsPart s)) 3 _ (omega arith) (two .1) in
     let four = passed (samplesInRange (samplesPart s) && placesEnough (samplesPart s) requests) 4 0 (omega arith) (three .1) in
@@ -108,6 +110,7 @@ accepted s requests buffer h =
     record {
       whole = both .0;
       buffer-length = eqb-true _ _ (both .1);
+      known = known .0;
       state = one .0;
       words = two .0;
       rows = three .0;
@@ -115,24 +118,25 @@ accepted s requests buffer h =
       places = leb-true _ _ (enough .1);
     }
 
-pub not-refused : (s : List ℕ) (requests buffer : ℕ) → Accepted s requests buffer → deckRefusalOf s requests buffer ≡ 0
+pub not-refused : (s : List ℕ) (requests buffer marking : ℕ) → Accepted s requests buffer marking → deckRefusalOf s requests buffer marking ≡ 0
 unfolding deckRefusalOf
-not-refused s requests buffer a =
-    rw (a .whole, eq-eqb buffer stateBytes (a .buffer-length), a .state, a .words, a .rows, a .samples, le-leb _ _ (a .places))
+not-refused s requests buffer marking a =
+    rw (a .whole, eq-eqb buffer stateBytes (a .buffer-length), a .known, a .state, a .words, a .rows, a .samples, le-leb _ _ (a .places))
 
 not-one : (t : Bool) (n rest : ℕ) → (n ≡ 1 → ⊥) → (rest ≡ 1 → ⊥) → unless t n rest ≡ 1 → ⊥
 not-one true n rest a b e = b e
 not-one false n rest a b e = a e
 
 -- a state in range is not refused with 1, whatever stands beside it
-pub state-accepted : (s : List ℕ) (requests buffer : ℕ) → stateInRange (statePart s) ≡ true → deckRefusalOf s requests buffer ≡ 1 → ⊥
+pub state-accepted : (s : List ℕ) (requests buffer marking : ℕ) → stateInRange (statePart s) ≡ true → deckRefusalOf s requests buffer marking ≡ 1 → ⊥
 unfolding deckRefusalOf
-state-accepted s requests buffer h =
+state-accepted s requests buffer marking h =
     rw h
     (not-one (wholeOf s && eqb buffer stateBytes) 9 _ (λ e. omega arith)
+    (not-one (isMarking marking) 24 _ (λ e. omega arith)
     (not-one (wordsInRange (wordsPart s)) 2 _ (λ e. omega arith)
     (not-one (rowsPartInRange (rowsPart s)) 3 _ (λ e. omega arith)
-    (not-one (samplesInRange (samplesPart s) && placesEnough (samplesPart s) requests) 4 0 (λ e. omega arith) (λ e. omega arith)))))
+    (not-one (samplesInRange (samplesPart s) && placesEnough (samplesPart s) requests) 4 0 (λ e. omega arith) (λ e. omega arith))))))
 
 -- ---- what sections in range hold
 pub word-below : (s : List ℕ) → wordsInRange s ≡ true → (i : ℕ) → i < length s / 4 → wordAt s i < 4194304

@@ -41,10 +41,11 @@ sections-by-layout s h =
     let f = fits s h in
     (by-layout s 0 4 h (f .0), by-layout s (l .rows) 16 h (f .1), by-layout s (l .state) stateBytes h (f .2), by-layout s (l .samples) 4 h (f .3))
 
-pub refusal-by-layout : (s : List ℕ) (requests buffer : ℕ) → refusalBy s (layoutOf s) requests buffer ≡ deckRefusalOf s requests buffer
+pub refusal-by-layout : (s : List ℕ) (requests buffer marking : ℕ)
+    → refusalBy s (layoutOf s) requests buffer marking ≡ deckRefusalOf s requests buffer marking
 unfolding refusalBy deckRefusalOf wholeBy wholeOf
-refusal-by-layout s requests buffer = go (wholeOf s) refl
+refusal-by-layout s requests buffer marking = go (wholeOf s) refl
   where
-    go : (t : Bool) → wholeOf s ≡ t → refusalBy s (layoutOf s) requests buffer ≡ deckRefusalOf s requests buffer
+    go : (t : Bool) → wholeOf s ≡ t → refusalBy s (layoutOf s) requests buffer marking ≡ deckRefusalOf s requests buffer marking
     go true h = let p = sections-by-layout s h in rw (p .0, p .1, p .2, p .3)
     go false h = rw h

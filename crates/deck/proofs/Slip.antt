@@ -1,6 +1,6 @@
 -- Which number is given before the first attempt, exactly: the first of 01's order whose test fails. Assumes nothing.
 use mathlib.Core.Path.{_≡_, refl, sym, ap, subst, _∙_}
-use mathlib.Core.Bool.{Bool, true, false, _&&_, false≢true, and-eq-true-iff}
+use mathlib.Core.Bool.{Bool, true, false, _&&_, _||_, false≢true, and-eq-true-iff}
 use mathlib.Core.List.{List, [], _∷_, _++_, append-nil, append-assoc}
 use mathlib.Core.Logic.{_↔_, _⊎_, inl, inr, ⊎-elim}
 use Prim.Native.Nat.{ℕ, zero, suc, _+_, _*_, _/_, _%_, _<_, _≤_}
@@ -18,6 +18,7 @@ use Rattle.numbers.proofs.Laws.{byte-below, pair-low, pair-high}
 use Rattle.rows.specs.Range.{rowInRange}
 use Rattle.rows.specs.Section.{rowFrom}
 use Rattle.rows.proofs.Matching.{row-in-range}
+use Rattle.state.specs.Marking.{isMarking}
 use Rattle.state_bytes.specs.Bytes.{stateBytes}
 use Rattle.state_bytes.specs.Order.{StateInRange}
 use Rattle.state_bytes.specs.Range.{stateInRange}
@@ -25,7 +26,7 @@ use Rattle.state_bytes.proofs.Order.{state-range-exactly}
 use Rattle.deck.specs.Elements.{linesAt, interruptsAt}
 use Rattle.deck.specs.Ranges.{wordsInRange, rowsPartInRange, samplesInRange, placesEnough, unless, deckRefusalOf}
 use Rattle.deck.specs.Sections.{countAt, sectionEnd, layoutOf, wholeOf, wordsPart, rowsPart, statePart, samplesPart}
-use Rattle.deck.specs.Slip.{counted, Sections, Whole, Old, WordsAllowed, RowsAllowed, SamplesAllowed, slip, FirstFailing}
+use Rattle.deck.specs.Slip.{counted, Sections, Whole, Old, Printed, WordsAllowed, RowsAllowed, SamplesAllowed, slip, FirstFailing}
 use Rattle.deck.proofs.Every.{rows-every}
 use Rattle.deck.proofs.Laws.{tested, fits, section-end-ge, part-length, whole-deck, section-bytes, word-below, samples-few, sample-in-range}
 use Rattle.deck.proofs.Laws.{rows-in-range}
@@ -208,7 +209,18 @@ module _ (s : List ℕ) (c : Sections stateBytes s) where
 sections-length : (bytes : ℕ) (s : List ℕ) (c : Sections bytes s) → length s ≡ 8 + 4 * c .words + 16 * c .rows + bytes + 4 * c .samples
 sections-length bytes s c = ap length (c .order) ∙ simp length-append (omega arith)
 
-module _ (s : List ℕ) (b : Bytes s) (requests buffer : ℕ) where
+-- the numbers that are printed
+printed-exactly : (marking : ℕ) → Decides (isMarking marking) (Printed marking)
+printed-exactly marking = (
+  (λ h. one-of (eqb marking 1661) refl (eqb marking 1621) refl h),
+  (λ p. ⊎-elim (λ e. rw e) (λ e. rw e) p),
+)
+  where
+    one-of : (t : Bool) → eqb marking 1661 ≡ t → (u : Bool) → eqb marking 1621 ≡ u → t || u ≡ true → Printed marking
+    one-of true p u q h = inl (eqb-true _ _ p)
+    one-of false p u q h = inr (eqb-true _ _ (q ∙ h))
+
+module _ (s : List ℕ) (b : Bytes s) (requests buffer marking : ℕ) where
   whole-exactly : Decides (wholeOf s && eqb buffer stateBytes) (Whole s buffer)
   whole-exactly = (
     (λ h.
@@ -217,7 +229,7 @@ module _ (s : List ℕ) (b : Bytes s) (requests buffer : ℕ) where
     (λ w. rw (whole-is s (w .sections) (w .size), eq-eqb buffer stateBytes (w .buffer-size))),
   )
 
-  given : FirstFailing (slip s requests buffer) (deckRefusalOf s requests buffer)
+  given : FirstFailing (slip s requests buffer marking) (deckRefusalOf s requests buffer marking)
   unfolding deckRefusalOf
   given =
       let state = section-bytes s (layoutOf s .state) stateBytes b in
@@ -227,21 +239,24 @@ module _ (s : List ℕ) (b : Bytes s) (requests buffer : ℕ) where
       let three = unless (rowsPartInRange (rowsPart s)) 3 four in
       let two = unless (wordsInRange (wordsPart s)) 2 three in
       let one = unless (stateInRange (statePart s)) 1 two in
-      first (wholeOf s && eqb buffer stateBytes) (Whole s buffer) whole-exactly 9 one (drop 1 (slip s requests buffer))
-      (first (stateInRange (statePart s)) (StateInRange (statePart s)) (state-range-exactly (statePart s) state) 1 two (drop 2 (slip s requests buffer))
-      (first (wordsInRange (wordsPart s)) (WordsAllowed (wordsPart s)) (words-exactly (wordsPart s)) 2 three (drop 3 (slip s requests buffer))
-      (first (rowsPartInRange (rowsPart s)) (RowsAllowed (rowsPart s)) (rows-exactly (rowsPart s)) 3 four (drop 4 (slip s requests buffer))
-      (first _ (SamplesAllowed attempts requests) (samples-exactly attempts samples requests) 4 0 [] refl))))
+      let known = unless (isMarking marking) 24 one in
+      let tests = slip s requests buffer marking in
+      first (wholeOf s && eqb buffer stateBytes) (Whole s buffer) whole-exactly 9 known (drop 1 tests)
+      (first (isMarking marking) (Printed marking) (printed-exactly marking) 24 one (drop 2 tests)
+      (first (stateInRange (statePart s)) (StateInRange (statePart s)) (state-range-exactly (statePart s) state) 1 two (drop 3 tests)
+      (first (wordsInRange (wordsPart s)) (WordsAllowed (wordsPart s)) (words-exactly (wordsPart s)) 2 three (drop 4 tests)
+      (first (rowsPartInRange (rowsPart s)) (RowsAllowed (rowsPart s)) (rows-exactly (rowsPart s)) 3 four (drop 5 tests)
+      (first _ (SamplesAllowed attempts requests) (samples-exactly attempts samples requests) 4 0 [] refl)))))
 
-  -- "Given exactly when", "Order: 9, then 1, 2, 3, 4"
-  pub refusal-exactly : (n : ℕ) → (deckRefusalOf s requests buffer ≡ n) ↔ FirstFailing (slip s requests buffer) n
+  -- "Given exactly when", "Order: 9, then 1, 2, 3, 4", and 24 "right after 9"
+  pub refusal-exactly : (n : ℕ) → (deckRefusalOf s requests buffer marking ≡ n) ↔ FirstFailing (slip s requests buffer marking) n
   refusal-exactly n = (
-    (λ e. subst (λ (m : ℕ). FirstFailing (slip s requests buffer) m) e given),
-    (λ f. one-number (slip s requests buffer) _ n given f),
+    (λ e. subst (λ (m : ℕ). FirstFailing (slip s requests buffer marking) m) e given),
+    (λ f. one-number (slip s requests buffer marking) _ n given f),
   )
 
   -- 02, L1: "old 41-byte decks and host state buffers get 9", whatever they hold: no deck is of both forms, since their lengths differ modulo 4
-  pub old-refused : Old s buffer → deckRefusalOf s requests buffer ≡ 9
+  pub old-refused : Old s buffer → deckRefusalOf s requests buffer marking ≡ 9
   old-refused old = refusal-exactly 9 .1 (inl (neither, refl))
     where
       neither : Whole s buffer → ⊥

@@ -6,6 +6,7 @@ use Prim.Native.Nat.{ℕ, _+_, _-_}
 use lib.Dec.{eqb, leb}
 use lib.ListN.{length, take, drop}
 use Rattle.choose.specs.Ranged.{pick}
+use Rattle.state.specs.Marking.{isMarking}
 use Rattle.state_bytes.specs.Bytes.{stateBytes}
 use Rattle.state_bytes.specs.Range.{stateInRange}
 use Rattle.deck.specs.Sections.{countAt}
@@ -19,11 +20,12 @@ wholeBy s l = leb (length s) 65536 && eqb (countAt s (l .state)) 1 && eqb (l .en
 unfoldable pub between : List ℕ → ℕ → ℕ → List ℕ
 between s a e = pick (leb e (length s) && leb (a + 2) e) (take (e - (a + 2)) (drop (a + 2) s)) []
 
-unfoldable pub refusalBy : List ℕ → Layout → ℕ → ℕ → ℕ
-refusalBy s l requests buffer =
+unfoldable pub refusalBy : List ℕ → Layout → ℕ → ℕ → ℕ → ℕ
+refusalBy s l requests buffer marking =
     unless (wholeBy s l && eqb buffer stateBytes) 9
+    (unless (isMarking marking) 24
     (unless (stateInRange (between s (l .state) (l .samples))) 1
     (unless (wordsInRange (between s 0 (l .rows))) 2
     (unless (rowsPartInRange (between s (l .rows) (l .state))) 3
     (unless (samplesInRange (between s (l .samples) (l .end)) && placesEnough (between s (l .samples) (l .end)) requests) 4
-    0))))
+    0)))))

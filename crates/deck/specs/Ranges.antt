@@ -1,4 +1,4 @@
--- "Numbers on the refusal slip", those before the first attempt: 9, then 1, 2, 3, 4.
+-- "Numbers on the refusal slip", those before the first attempt: 9, then 24 of 02, L14, then 1, 2, 3, 4.
 use mathlib.Core.Path.{_≡_}
 use mathlib.Core.Bool.{Bool, true, _&&_}
 use mathlib.Core.List.{List}
@@ -10,6 +10,7 @@ use Rattle.numbers.specs.Numbers.{wordAt}
 use Rattle.choose.specs.Below.{allBelow}
 use Rattle.rows.specs.Section.{rowsOf}
 use Rattle.rows.specs.Range.{rowsInRange}
+use Rattle.state.specs.Marking.{isMarking}
 use Rattle.state_bytes.specs.Bytes.{stateBytes}
 use Rattle.state_bytes.specs.Range.{stateInRange}
 use Rattle.deck.specs.Sections.{wholeOf, wordsPart, rowsPart, statePart, samplesPart}
@@ -34,20 +35,22 @@ placesEnough s requests = leb (length s / 4) (requests / 4)
 abbrev pub unless : Bool → ℕ → ℕ → ℕ
 unless t number rest = pick t rest number
 
--- "Order: 9, then 1, 2, 3, 4"; 9 also for the host's state buffer of another length than a state's
-unfoldable pub deckRefusalOf : List ℕ → ℕ → ℕ → ℕ
-deckRefusalOf s requests buffer =
+-- "Order: 9, then 1, 2, 3, 4"; 9 also for the host's state buffer of another length than a state's; 02, L14: "24 unknown marking, right after 9"
+unfoldable pub deckRefusalOf : List ℕ → ℕ → ℕ → ℕ → ℕ
+deckRefusalOf s requests buffer marking =
     unless (wholeOf s && eqb buffer stateBytes) 9
+    (unless (isMarking marking) 24
     (unless (stateInRange (statePart s)) 1
     (unless (wordsInRange (wordsPart s)) 2
     (unless (rowsPartInRange (rowsPart s)) 3
     (unless (samplesInRange (samplesPart s) && placesEnough (samplesPart s) requests) 4
-    0))))
+    0)))))
 
--- what holds of a deck and the lengths of the two buffers where there is no refusal
-pub record Accepted (s : List ℕ) (requests buffer : ℕ) : Type 0 where
+-- what holds of a deck, the lengths of the two buffers and the marking where there is no refusal
+pub record Accepted (s : List ℕ) (requests buffer marking : ℕ) : Type 0 where
   pub whole : wholeOf s ≡ true
   pub buffer-length : buffer ≡ stateBytes
+  pub known : isMarking marking ≡ true
   pub state : stateInRange (statePart s) ≡ true
   pub words : wordsInRange (wordsPart s) ≡ true
   pub rows : rowsPartInRange (rowsPart s) ≡ true

@@ -42,6 +42,10 @@ pub record Whole (s : List ℕ) (buffer : ℕ) : Type 0 where
 abbrev pub Old : List ℕ → ℕ → Type 0
 Old s buffer = Sections 41 s ⊎ (buffer ≡ 41)
 
+-- 02, L14: 24 is given for an "unknown marking": 1661 and 1621 are printed on the chips
+abbrev pub Printed : ℕ → Type 0
+Printed marking = (marking ≡ 1661) ⊎ (marking ≡ 1621)
+
 -- 2 is given for "over 2,048 words, or a word of 2^22 or more"
 pub record WordsAllowed (s : List ℕ) : Type 0 where
   pub few : length s / 4 ≤ 2048
@@ -58,10 +62,11 @@ pub record SamplesAllowed (s : List ℕ) (requests : ℕ) : Type 0 where
   pub each : (i : ℕ) → i < length s / 4 → LaidWithin s (i * 4) ((2, 0xFFFF) ∷ (1, 0x1F) ∷ (1, 0xF) ∷ [])
   pub places : length s / 4 ≤ requests / 4
 
--- "Order: 9, then 1, 2, 3, 4": each number with what it is not given for
-abbrev pub slip : List ℕ → ℕ → ℕ → List (ℕ × Type 0)
-slip s requests buffer =
+-- "Order: 9, then 1, 2, 3, 4", with 24 "right after 9": each number with what it is not given for
+abbrev pub slip : List ℕ → ℕ → ℕ → ℕ → List (ℕ × Type 0)
+slip s requests buffer marking =
     (9, Whole s buffer)
+    ∷ (24, Printed marking)
     ∷ (1, StateInRange (statePart s))
     ∷ (2, WordsAllowed (wordsPart s))
     ∷ (3, RowsAllowed (rowsPart s))
@@ -75,4 +80,4 @@ FirstFailing (t ∷ ts) n = ((t .1 → ⊥) × (n ≡ t .0)) ⊎ (t .1 × FirstF
 
 -- the numbers that are given before the first attempt
 abbrev pub BeforeAttempts : ℕ → Type 0
-BeforeAttempts n = (n ≡ 9) ⊎ ((1 ≤ n) × (n ≤ 4))
+BeforeAttempts n = (n ≡ 9) ⊎ (n ≡ 24) ⊎ ((1 ≤ n) × (n ≤ 4))

@@ -162,11 +162,14 @@ pub struct Opened {
 }
 
 // The refusal before the first attempt, or 0; the lengths are those of the host's two buffers, in bytes.
-fn refusal(deck: &[u8], l: Layout, requests_len: usize, state_len: usize) -> u8
-    ensures { λ r. ⌜ r ≡ refusalBy (now (deck .entry)) l «requests_len» «state_len» ⌝ }
+fn refusal(deck: &[u8], l: Layout, requests_len: usize, state_len: usize, marking: u32) -> u8
+    ensures { λ r. ⌜ r ≡ refusalBy (now (deck .entry)) l «requests_len» «state_len» marking ⌝ }
 {
     if !(whole(deck, l) & (state_len == STATE_BYTES)) {
         return 9;
+    }
+    if !state::is_marking(marking) {
+        return 24;
     }
     if !state_bytes::in_range(state(deck, l)) {
         return 1;
@@ -184,10 +187,10 @@ fn refusal(deck: &[u8], l: Layout, requests_len: usize, state_len: usize) -> u8
     0
 }
 
-pub fn open(deck: &[u8], requests_len: usize, state_len: usize) -> Opened
-    ensures { λ r. ⌜ (r .refusal ≡ deckRefusalOf (now (deck .entry)) «requests_len» «state_len») × (r .layout ≡ layoutOf (now (deck .entry))) ⌝ }
+pub fn open(deck: &[u8], requests_len: usize, state_len: usize, marking: u32) -> Opened
+    ensures { λ r. ⌜ (r .refusal ≡ deckRefusalOf (now (deck .entry)) «requests_len» «state_len» marking) × (r .layout ≡ layoutOf (now (deck .entry))) ⌝ }
 {
     let layout = sections(deck);
-    let refusal = refusal(deck, layout, requests_len, state_len);
+    let refusal = refusal(deck, layout, requests_len, state_len, marking);
     Opened { refusal, layout }
 }

@@ -8,6 +8,7 @@ use Rattle.choose.specs.Ranged.{bit}
 use Rattle.state.specs.File.{slotOf}
 use Rattle.state.specs.FlagByte.{nibbleOf}
 use Rattle.state.specs.declared.Core.{Core}
+use Rattle.state.specs.declared.Marking.{Marking}
 use Rattle.state_bytes.specs.Bytes.{Loaded}
 use Rattle.engine.specs.declared.Report.{Report}
 use Rattle.engine.specs.Host.{Hosted, hosted, hostOf}
@@ -27,12 +28,12 @@ pub one-nibble : (a b c d : Bool) (r q : ℕ) → (r ≡ nibbleOf a b c d) × (r
 one-nibble a b c d r q x y = one-result (x .0) (y .0)
 
 -- for `state_bytes::load`: the core, and the register file
-pub one-load : (s : List ℕ) (r q : Core) (a b : List ℕ) → Loaded s r a → Loaded s q b → (r ≡ q) × (a ≡ b)
-one-load s r q a b x y = (one-result (x .core) (y .core), one-result (x .file) (y .file))
+pub one-load : (s : List ℕ) (m : Marking) (r q : Core) (a b : List ℕ) → Loaded s m r a → Loaded s m q b → (r ≡ q) × (a ≡ b)
+one-load s m r q a b x y = (one-result (x .core) (y .core), one-result (x .file) (y .file))
 
 -- and for the host's entry: the report and both buffers
-pub one-run : (deck requests state : List ℕ) (r q : Report) (a b s t : List ℕ)
-    → hosted r a s ≡ hostOf deck requests state → hosted q b t ≡ hostOf deck requests state → (r ≡ q) × (a ≡ b) × (s ≡ t)
-one-run deck requests state r q a b s t x y =
+pub one-run : (deck requests state : List ℕ) (marking : ℕ) (r q : Report) (a b s t : List ℕ)
+    → hosted r a s ≡ hostOf deck requests state marking → hosted q b t ≡ hostOf deck requests state marking → (r ≡ q) × (a ≡ b) × (s ≡ t)
+one-run deck requests state marking r q a b s t x y =
     let e = one-result x y in
     (ap (λ (h : Hosted). h .report) e, ap (λ (h : Hosted). h .requests) e, ap (λ (h : Hosted). h .state) e)

@@ -137,12 +137,12 @@ pub struct Report {
     pub microcycles: u32,
 }
 
-// The bench host's entry: a deck's bytes, a place of four bytes for each sample, and a state's bytes for the state returned.
+// The bench host's entry: a deck's bytes, a place of four bytes for each sample, a state's bytes for the state returned, and the chip's marking.
 #[no_mangle]
-pub extern "C" fn run(deck: &[u8], requests: &mut [u8], state: &mut [u8]) -> Report
-    ensures { λ r. ⌜ hosted r (now (requests .exit)) (now (state .exit)) ≡ hostOf (now (deck .entry)) (now (requests .entry)) (now (state .entry)) ⌝ }
+pub extern "C" fn run(deck: &[u8], requests: &mut [u8], state: &mut [u8], marking: u32) -> Report
+    ensures { λ r. ⌜ hosted r (now (requests .exit)) (now (state .exit)) ≡ hostOf (now (deck .entry)) (now (requests .entry)) (now (state .entry)) marking ⌝ }
 {
-    let opened = deck::open(deck, requests.len(), state.len());
+    let opened = deck::open(deck, requests.len(), state.len(), marking);
     if opened.refusal != 0 {
         return Report {
             answer: opened.refusal as u32,
@@ -152,7 +152,8 @@ pub extern "C" fn run(deck: &[u8], requests: &mut [u8], state: &mut [u8]) -> Rep
     }
     let l = opened.layout;
     let mut file = [0u8; 26];
-    let core = state_bytes::load(deck::state(deck, l), &mut file);
+    let chip = state::marking_of(marking);
+    let core = state_bytes::load(deck::state(deck, l), chip, &mut file);
     let codes = code::rows();
     let part = deck::rows(deck, l);
     let samples = deck::samples(deck, l);

@@ -33,23 +33,24 @@ use Rattle.state.specs.declared.Core.{Core}
 use Rattle.state.specs.declared.Sample.{Sample}
 use Rattle.table_laws.proofs.Fates.{otherwise}
 use Rattle.table_laws.proofs.Lines.{is-within}
-use Rattle.pairs.specs.Before.{registersBy, effectBy, takenBy, attemptBy, nextOf, oddPair, refusalBefore, attemptBefore, EvenPairs}
+use Rattle.pairs.specs.Before.{registersBy, effectBy, takenBy, attemptBy, nextOf, oddPair, refusalBefore, rmwNow, attemptBefore, EvenPairs}
 
 -- ---- the definition with the engine's own lookup and refusal is the engine's
 
-own-effect : (xs : List ℕ) (k : Core) (code : ℕ) (o : Operands) (s : Sample) → effectBy highOf wordRefusalOf xs k code o s ≡ effectOf xs k code o s
+own-effect : (xs : List ℕ) (k : Core) (code : ℕ) (o : Operands) (s : Sample) → effectBy highOf wordRefusalOf rmwNow xs k code o s ≡ effectOf xs k code o s
 unfolding effectOf registerEffect registersOf conditionedOf operationOf inputOf
 own-effect xs k code (Operands.Jump n) s = refl
 own-effect xs k code (Operands.Literal v a) s = refl
 own-effect xs k code (Operands.Two b a) s = refl
 
-own-taken : (x : Apart) (o : Outputs) (xs : List ℕ) (k : Core) (s : Sample) → takenBy highOf wordRefusalOf x o xs k s ≡ takenOf x o xs k s
+own-taken : (x : Apart) (o : Outputs) (xs : List ℕ) (k : Core) (s : Sample) → takenBy highOf wordRefusalOf rmwNow x o xs k s ≡ takenOf x o xs k s
 unfolding checkedOf executedOf
 own-taken (Apart.Word w) o xs k s = rw (own-effect xs k (w .code) (w .operands) s)
 own-taken Apart.OutOfRange o xs k s = refl
 own-taken Apart.Unlisted o xs k s = refl
 
-pub own-attempt : (ws : List ℕ) (rs : List Row) (xs : List ℕ) (k : Core) (s : Sample) → attemptBy highOf wordRefusalOf ws rs xs k s ≡ attemptOf ws rs xs k s
+pub own-attempt : (ws : List ℕ) (rs : List Row) (xs : List ℕ) (k : Core) (s : Sample)
+    → attemptBy highOf wordRefusalOf rmwNow ws rs xs k s ≡ attemptOf ws rs xs k s
 unfolding attemptOf attemptedOf fetchedOf
 own-attempt ws rs xs k s = rw (own-taken)
 
@@ -109,7 +110,7 @@ module _ (xs : List ℕ) (k : Core) (dal code b a : ℕ) (h : code < 0x100) (hb 
       let input : inputWord code ≡ true = sym (word-codes code h register .1) ∙ rw (is-within 0xE0 0xE7 code lo (omega arith), e) in
       same-high a ha (is-even a (tested (twoCycle code) (inputWord code) (odd a) (odd b) passed .1 input))
 
-  same-registers : registersBy nextOf refusalBefore xs k dal code b a ≡ registersOf xs k dal code b a
+  same-registers : registersBy nextOf refusalBefore rmwNow xs k dal code b a ≡ registersOf xs k dal code b a
   unfolding registersOf conditionedOf operationOf inputOf ranged
   same-registers =
       second-or-third (ltb code 0x80) (ltb code 0xE0) (ltb code 0xE8) _ _ _ _ _ _
@@ -147,7 +148,7 @@ module _ (xs : List ℕ) (k : Core) (s : Sample) (o : Outputs) (word : ℕ) (eve
   has-passed Class.Register = even
 
   same-effect : (c : Class) → classOf (topOf word) ≡ c
-      → effectBy nextOf refusalBefore xs k (code c) (operandsIn c word) s ≡ effectOf xs k (code c) (operandsIn c word) s
+      → effectBy nextOf refusalBefore rmwNow xs k (code c) (operandsIn c word) s ≡ effectOf xs k (code c) (operandsIn c word) s
   unfolding operandsIn effectOf registerEffect
   same-effect Class.Unlisted q = refl
   same-effect Class.Jump q = refl
@@ -157,14 +158,14 @@ module _ (xs : List ℕ) (k : Core) (s : Sample) (o : Outputs) (word : ℕ) (eve
       rw (same-registers xs k (s .dal) (topOf word) (bIn word) (aIn word) (omega arith) (omega arith) (omega arith) q even)
 
   same-word : (c : Class) → classOf (topOf word) ≡ c
-      → takenBy nextOf refusalBefore (Apart.Word (fieldsIn c word)) o xs k s ≡ takenOf (Apart.Word (fieldsIn c word)) o xs k s
+      → takenBy nextOf refusalBefore rmwNow (Apart.Word (fieldsIn c word)) o xs k s ≡ takenOf (Apart.Word (fieldsIn c word)) o xs k s
   unfolding fieldsIn checkedOf executedOf
   same-word c q = rw (same-refusal (code c) (operandsIn c word) (has-passed c), same-effect c q)
 
-  same-taken : takenBy nextOf refusalBefore (apartOf word) o xs k s ≡ takenOf (apartOf word) o xs k s
+  same-taken : takenBy nextOf refusalBefore rmwNow (apartOf word) o xs k s ≡ takenOf (apartOf word) o xs k s
   unfolding apartOf
   same-taken =
-      let Same : Apart → Type 0 = λ x. takenBy nextOf refusalBefore x o xs k s ≡ takenOf x o xs k s in
+      let Same : Apart → Type 0 = λ x. takenBy nextOf refusalBefore rmwNow x o xs k s ≡ takenOf x o xs k s in
       pick-all Same (ltb word 0x40_0000) _ _ (pick-all Same (listed (classOf (topOf word))) _ _ (same-word (classOf (topOf word)) refl) refl) refl
 
 -- the attempt of a word with even pairs, or with none, is the one of before

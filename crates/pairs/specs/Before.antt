@@ -1,5 +1,5 @@
--- The attempt with any lookup of a pair's high byte and any refusal of words, so that it can be had as it was before 02's L6. For one law, that of even
--- pairs: the engine uses none of it.
+-- The attempt with any lookup of a pair's high byte, any refusal of words and any rule of RMW, so that it can be had as it was before 02's L6 and before its
+-- L14. For two laws, those of even pairs and of the base's marking: the engine uses none of it.
 use Prim.Native.Nat.{ℕ, _+_, _/_, _%_}
 use mathlib.Core.Path.{_≡_}
 use mathlib.Core.Bool.{Bool, false, true, _&&_, _||_}
@@ -20,7 +20,7 @@ use Rattle.code.specs.Word.{apartOf, numberOf}
 use Rattle.code.specs.declared.Apart.{Apart}
 use Rattle.code.specs.declared.Fields.{Fields}
 use Rattle.code.specs.declared.Operands.{Operands}
-use Rattle.control.specs.Bus.{busAfter, requestOf}
+use Rattle.control.specs.Bus.{rmwOf, busAfter, requestOf}
 use Rattle.control.specs.Latches.{latchesAfter}
 use Rattle.control.specs.Next.{addressAfter}
 use Rattle.control.specs.declared.Way.{Way}
@@ -36,8 +36,8 @@ use Rattle.state.specs.File.{Leaves, leaves, registerOf}
 use Rattle.state.specs.declared.Core.{Core}
 use Rattle.state.specs.declared.Sample.{Sample}
 
--- each is the engine's definition of nearly the same name, but for the lookup and the refusal
-module _ (high : ℕ → ℕ) (refusal : ℕ → Operands → ℕ) where
+-- each is the engine's definition of nearly the same name, but for the lookup, the refusal and RMW
+module _ (high : ℕ → ℕ) (refusal : ℕ → Operands → ℕ) (rmw : Core → ℕ → Bool) where
   abbrev pub operationBy : List ℕ → ℕ → Flags → ℕ → ℕ → ℕ → Leaves Flags
   operationBy xs g f code b a =
       let odd = eqb (code % 2) 1 in
@@ -76,7 +76,7 @@ module _ (high : ℕ → ℕ) (refusal : ℕ → Operands → ℕ) where
       leaves (m .file)
       (record {
         flags = m .back;
-        bus = busAfter (core .bus) code b pair;
+        bus = busAfter (core .bus) code (rmw core b) pair;
         latches = latchesAfter (core .latches) code b ra pair sample;
         way = Way.Onward;
         request = requestOf code pair (sample .dal);
@@ -93,6 +93,7 @@ module _ (high : ℕ → ℕ) (refusal : ℕ → Operands → ℕ) where
         bus = e .back .bus;
         latches = e .back .latches;
         outputs = w .user;
+        marking = k .marking;
       })
       (e .back .request)
       (cyclesOf (w .code))
@@ -115,7 +116,7 @@ module _ (high : ℕ → ℕ) (refusal : ℕ → Operands → ℕ) where
       (whenRefused xs k 5))
       (whenIdle xs k 12))
 
--- ---- as it was: 01's lookup, and its refusal 7 between 6 and 8
+-- ---- as it was before L6: 01's lookup, and its refusal 7 between 6 and 8
 
 -- "A pair is Ra (low) and Ra+1"
 abbrev pub nextOf : ℕ → ℕ
@@ -132,8 +133,12 @@ refusalBefore code (Operands.Jump n) = 0
 refusalBefore code (Operands.Literal v r) = 0
 refusalBefore code (Operands.Two b a) = pick (eqb code 0xAC) 6 (pick (oddPair code b a) 7 (pick (ltb (optionsOf code) b) 8 0))
 
+-- as it is: by the marking, and by TR before the instruction
+abbrev pub rmwNow : Core → ℕ → Bool
+rmwNow k b = rmwOf (k .marking) (k .latches .tr) b
+
 abbrev pub attemptBefore : List ℕ → List Row → List ℕ → Core → Sample → Leaves Outcome
-attemptBefore = attemptBy nextOf refusalBefore
+attemptBefore = attemptBy nextOf refusalBefore rmwNow
 
 -- a word that 7 did not refuse, as it has no pair, or even ones
 abbrev pub EvenPairs : ℕ → Type 0

@@ -5,6 +5,7 @@ use code::Class;
 use code::CodeRow;
 use libc::STDIN_FILENO;
 use libc::STDOUT_FILENO;
+use state::Bus;
 
 fn say(text: &[u8]) {
     io::write_all(STDOUT_FILENO, text);
@@ -108,6 +109,26 @@ fn waits(kind: u8) {
     }
 }
 
+// Whether SYNC is other after a code where RMW happens: the marking decides only on that.
+fn asks_for_rmw(code: u8) -> bool {
+    let held = Bus {
+        m: 0,
+        sync: true,
+        iack: true,
+    };
+    let kept = control::bus_after(held, code, true, 0);
+    let dropped = control::bus_after(held, code, false, 0);
+    kept.sync & !dropped.sync
+}
+
+fn with_q1(code: u8) {
+    if asks_for_rmw(code) {
+        say(b"b 4-7: SYNC and IACK kept only if Q1 is false");
+    } else {
+        say(b"the same");
+    }
+}
+
 fn refusals(options: u8) {
     if options == 15 {
         say(b"none ");
@@ -118,7 +139,7 @@ fn refusals(options: u8) {
     }
 }
 
-fn facts(row: CodeRow) {
+fn facts(top: u8, row: CodeRow) {
     number(row.cycles);
     say(b" | ");
     status(row.flags);
@@ -128,6 +149,8 @@ fn facts(row: CodeRow) {
     stores(row.stores);
     say(b" | ");
     waits(row.waits);
+    say(b" | ");
+    with_q1(top);
     say(b" | ");
     refusals(row.options);
 }
@@ -161,8 +184,8 @@ fn requirement(top: u8, row: CodeRow, refusal: u8, vectors: u8) {
     format(class);
     say(b" | ");
     match refusal {
-        0 => facts(row),
-        _ => say(b"| | | | | 6: the engine always refuses it. "),
+        0 => facts(top, row),
+        _ => say(b"| | | | | | 6: the engine always refuses it. "),
     }
     checked(top, vectors);
 }
@@ -225,12 +248,27 @@ fn columns() {
     );
     say(b"- **Waits** while these lines are so.\n");
     say(
+        b"- **CP1621B**: what is other with a control chip of this marking. All else on this page is of both, CP1661B and CP1621B.\n",
+    );
+    say(
         b"- **Refusals** that can come, with their cause. An attempt that fetches is refused with 5 where LC has no word.\n",
     );
     say(
         b"  7 is no longer given: it was the answer to an odd designator where a pair is needed, which is now executed.\n",
     );
     say(b"- **Vectors** that check it: how many, and the file.\n");
+}
+
+fn q1() {
+    say(
+        b"\nIB and IW with b 0-3 drop SYNC and IACK; with b 4-7 they ask to keep them, for the write of a read-modify-write (RMW). With CP1661B\n",
+    );
+    say(
+        b"they keep them always. With CP1621B they keep them only if Q1 is false, and else drop them too. Q1 is read from TR before the instruction:\n\n",
+    );
+    say(
+        b"    Q1 = (not TR14 and TR13) or (not TR14, not TR12, TR11, not TR10, TR9, TR8, TR7 and TR6 together)\n",
+    );
 }
 
 fn document(vectors: &[u8; 256]) {
@@ -246,10 +284,11 @@ fn document(vectors: &[u8; 256]) {
         b"\nEvery completed attempt, one with a failed condition too, also loads the user's outputs with bits 18-21 of its word. A wait, RESET,\n",
     );
     say(b"COMPUTE low and a refusal keep them.\n");
+    q1();
     say(
-        b"\n| Key | Codes | Format | Microcycles | Status | Condition | Registers | Waits | Refusals | Vectors |\n",
+        b"\n| Key | Codes | Format | Microcycles | Status | Condition | Registers | Waits | CP1621B | Refusals | Vectors |\n",
     );
-    say(b"|---|---|---|---|---|---|---|---|---|---|\n");
+    say(b"|---|---|---|---|---|---|---|---|---|---|---|\n");
     lines(true, vectors);
     say(b"\n## Unlisted codes\n\n");
     say(b"| Key | Code | Refusals | Vectors |\n|---|---|---|---|\n");

@@ -9,3 +9,5 @@ pub mod Attempts
 pub mod Slip
 pub mod Outputs
 pub mod NoSeven
+pub mod Marking
+pub mod Never

@@ -17,6 +17,7 @@ use Rattle.rows.specs.declared.Row.{Row}
 use Rattle.state.specs.File.{Leaves}
 use Rattle.state.specs.declared.Core.{Core}
 use Rattle.state.specs.declared.Sample.{Sample}
+use Rattle.state.specs.Marking.{markingOf}
 use Rattle.state_bytes.specs.Bytes.{coreOf, tailOf}
 use Rattle.state_bytes.proofs.Laws.{tail-at}
 use Rattle.run_laws.specs.Attempts.{stateAfter, NoneCompletes, LastCompleted}
@@ -63,22 +64,22 @@ module _ (ws : List ℕ) (rs : List Row) (at : ℕ → Sample) (first : Leaves C
 
 -- ---- what is handed back after n attempts
 
-module _ (deck requests state : List ℕ) (b : Bytes deck) (h : deckRefusalOf deck (length requests) (length state) ≡ 0) (n : ℕ)
-    (few : n ≤ sampleCount deck) (r : Returned deck requests (hostOf deck requests state) n) where
-  last-byte : byteAt (hostOf deck requests state .state) 41 ≡ stateIn deck n .back .outputs
+module _ (deck requests state : List ℕ) (marking : ℕ) (b : Bytes deck) (h : deckRefusalOf deck (length requests) (length state) marking ≡ 0) (n : ℕ)
+    (few : n ≤ sampleCount deck) (r : Returned deck requests marking (hostOf deck requests state marking) n) where
+  last-byte : byteAt (hostOf deck requests state marking .state) 41 ≡ stateIn deck marking n .back .outputs
   unfolding tailOf
   last-byte =
-      let x = stateIn deck n in
-      ap (λ (s : List ℕ). byteAt s 41) (r .state) ∙ tail-at (x .file) (x .back) (state-each deck requests state b h n few .size) 15
+      let x = stateIn deck marking n in
+      ap (λ (s : List ℕ). byteAt s 41) (r .state) ∙ tail-at (x .file) (x .back) (state-each deck requests state marking b h n few .size) 15
 
-  pub host-outputs-last : (i : ℕ) → LastCompletedIn deck i n
-      → byteAt (hostOf deck requests state .state) 41 ≡ userBits (wordAt (wordsPart deck) (stateIn deck i .back .address .lc))
+  pub host-outputs-last : (i : ℕ) → LastCompletedIn deck marking i n
+      → byteAt (hostOf deck requests state marking .state) 41 ≡ userBits (wordAt (wordsPart deck) (stateIn deck marking i .back .address .lc))
   host-outputs-last i l =
-      let k = stateIn deck i .back in
+      let k = stateIn deck marking i .back in
       last-byte
       ∙ outputs-last _ _ _ _ i n l
-      ∙ taken-outputs (wordsPart deck) k (state-each deck requests state b h i (omega (arith, l .0)) .modification)
+      ∙ taken-outputs (wordsPart deck) k (state-each deck requests state marking b h i (omega (arith, l .0)) .modification)
 
-  pub host-outputs-start : NoneCompletesIn deck n → byteAt (hostOf deck requests state .state) 41 ≡ byteAt (statePart deck) 41
+  pub host-outputs-start : NoneCompletesIn deck marking n → byteAt (hostOf deck requests state marking .state) 41 ≡ byteAt (statePart deck) 41
   unfolding coreOf
   host-outputs-start none = last-byte ∙ outputs-start _ _ _ _ n (λ j lo. none j (omega arith))

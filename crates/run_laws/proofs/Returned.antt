@@ -22,6 +22,7 @@ use Rattle.state.specs.Range.{InRange, SampleInRange}
 use Rattle.state.specs.File.{Leaves}
 use Rattle.state.specs.declared.Core.{Core}
 use Rattle.state.specs.declared.Sample.{Sample}
+use Rattle.state.specs.Marking.{markingOf}
 use Rattle.state_bytes.specs.Bytes.{stateBytes, fileOf, coreOf, bytesOf}
 use Rattle.state_bytes.proofs.Laws.{state-in-range, stored-bytes}
 use Rattle.run_laws.specs.Attempts.{sumBelow, stateAfter, stateOf, Ran}
@@ -44,11 +45,11 @@ unfolding stateAfter
 after-in-range ws rs r at x h zero d = h
 after-in-range ws rs r at x h (suc i) d = attempt-in-range ws rs _ _ (at i) r (after-in-range ws rs r at x h i (λ j l. d j (omega arith))) (d i (omega arith))
 
-module _ (deck requests state : List ℕ) (b : Bytes deck) (h : deckRefusalOf deck (length requests) (length state) ≡ 0) where
+module _ (deck requests state : List ℕ) (marking : ℕ) (b : Bytes deck) (h : deckRefusalOf deck (length requests) (length state) marking ≡ 0) where
   abbrev first : World
-  first = world (fileOf (statePart deck)) (coreOf (statePart deck)) 0 0 0 requests
+  first = world (fileOf (statePart deck)) (coreOf (statePart deck) (markingOf marking)) 0 0 0 requests
 
-  ran : Ran (wordsPart deck) (deckRows deck) (sampleAt (samplesPart deck)) (sampleCount deck) first (deckRun deck requests)
+  ran : Ran (wordsPart deck) (deckRows deck) (sampleAt (samplesPart deck)) (sampleCount deck) first (deckRun deck requests (markingOf marking))
   unfolding deckRun
   ran =
       let s = samplesPart deck in
@@ -59,30 +60,32 @@ module _ (deck requests state : List ℕ) (b : Bytes deck) (h : deckRefusalOf de
 
   samples-each : (j : ℕ) → j < sampleCount deck → SampleInRange (sampleAt (samplesPart deck) j)
   samples-each j l =
-      let a = accepted deck (length requests) (length state) h in
+      let a = accepted deck (length requests) (length state) marking h in
       sample-in-its-range (samplesPart deck) (section-bytes deck (layoutOf deck .samples) 4 b) (a .samples) j (omega arith)
 
-  pub state-each : (i : ℕ) → i ≤ sampleCount deck → InRange (stateIn deck i .file) (stateIn deck i .back)
+  pub state-each : (i : ℕ) → i ≤ sampleCount deck → InRange (stateIn deck marking i .file) (stateIn deck marking i .back)
   state-each i l =
-      let a = accepted deck (length requests) (length state) h in
-      after-in-range _ _ (rows-in-range (rowsPart deck) (a .rows) .1) _ (deckState deck)
-      (state-in-range (statePart deck) (section-bytes deck (layoutOf deck .state) stateBytes b) (a .state)) i (λ j m. samples-each j (omega arith))
+      let a = accepted deck (length requests) (length state) marking h in
+      after-in-range _ _ (rows-in-range (rowsPart deck) (a .rows) .1) _ (deckState deck marking)
+      (state-in-range (statePart deck) (markingOf marking) (section-bytes deck (layoutOf deck .state) stateBytes b) (a .state)) i
+      (λ j m. samples-each j (omega arith))
 
-  returned : (i : ℕ) → ran .made ≡ i → i ≤ sampleCount deck → Returned deck requests (hostOf deck requests state) i
+  returned : (i : ℕ) → ran .made ≡ i → i ≤ sampleCount deck → Returned deck requests marking (hostOf deck requests state marking) i
   unfolding deckRun
   returned i e l =
-      rw (← answers deck requests state h (deckRun deck requests) refl)
+      rw (← answers deck requests state marking h (deckRun deck requests (markingOf marking)) refl)
       (record {
         passed = λ j m. ran .passed j (omega arith);
         state =
-            let kept : stateOf (deckRun deck requests) ≡ stateIn deck i = rw e at (ran .state) in
-            stored-bytes _ _ state (accepted deck (length requests) (length state) h .buffer-length)
+            let kept : stateOf (deckRun deck requests (markingOf marking)) ≡ stateIn deck marking i = rw e at (ran .state) in
+            stored-bytes _ _ state (accepted deck (length requests) (length state) marking h .buffer-length)
             ∙ ap (λ (x : Leaves Core). bytesOf (x .file) (x .back)) kept;
         attempts = omega (arith, ran .attempts);
         microcycles = rw e at (ran .microcycles) ∙ omega arith;
         written = λ j m.
-            let there = places deck (length requests) (length state) h .1 in
-            let small : attemptIn deck j .back .request < 13 * 65536 = attempt-request _ _ _ _ _ (state-each j (omega arith)) (samples-each j (omega arith)) in
+            let there = places deck (length requests) (length state) marking h .1 in
+            let small : attemptIn deck marking j .back .request < 13 * 65536
+            = attempt-request _ _ _ _ _ (state-each j (omega arith)) (samples-each j (omega arith)) in
             let at : 0 + j ≡ j = omega arith in
             rw at at (ran .places j (omega arith) (omega arith) (omega arith));
         size = run-places _ _ _ first .size;
@@ -90,27 +93,30 @@ module _ (deck requests state : List ℕ) (b : Bytes deck) (h : deckRefusalOf de
       })
 
   -- 0, "all samples used": every attempt passed
-  pub host-used : hostOf deck requests state .report .answer ≡ 0 → Returned deck requests (hostOf deck requests state) (sampleCount deck)
-  host-used z = returned (sampleCount deck) (ran .used (rw (← answers deck requests state h (deckRun deck requests) refl) at z)) (omega arith)
+  pub host-used : hostOf deck requests state marking .report .answer ≡ 0
+      → Returned deck requests marking (hostOf deck requests state marking) (sampleCount deck)
+  host-used z =
+      let none = rw (← answers deck requests state marking h (deckRun deck requests (markingOf marking)) refl) at z in
+      returned (sampleCount deck) (ran .used none) (omega arith)
 
   -- "Numbers 5-8 return the state before the refused attempt and the counts up to it; the places of earlier attempts are written, the others are untouched"
-  pub host-refused : (hostOf deck requests state .report .answer ≡ 0 → ⊥)
-      → Refused deck requests (hostOf deck requests state) (hostOf deck requests state .report .attempts)
+  pub host-refused : (hostOf deck requests state marking .report .answer ≡ 0 → ⊥)
+      → Refused deck requests marking (hostOf deck requests state marking) (hostOf deck requests state marking .report .attempts)
   host-refused =
-      rw (← answers deck requests state h (deckRun deck requests) refl)
+      rw (← answers deck requests state marking h (deckRun deck requests (markingOf marking)) refl)
       (λ z.
       let r = ran .refused z in
-      let e : ran .made ≡ deckRun deck requests .attempts = omega (arith, ran .attempts) in
+      let e : ran .made ≡ deckRun deck requests (markingOf marking) .attempts = omega (arith, ran .attempts) in
       record {
         sample = omega (arith, r .0);
         number = rw e at (r .1);
-        returned = rw (answers deck requests state h (deckRun deck requests) refl) (returned _ e (omega (arith, r .0)));
+        returned = rw (answers deck requests state marking h (deckRun deck requests (markingOf marking)) refl) (returned _ e (omega (arith, r .0)));
       })
 
   -- however the run ends, its microcycles are those of the attempts made, added up
-  pub host-cycles : hostOf deck requests state .report .microcycles
-      ≡ sumBelow (hostOf deck requests state .report .attempts) (λ j. attemptIn deck j .back .cycles)
+  pub host-cycles : hostOf deck requests state marking .report .microcycles
+      ≡ sumBelow (hostOf deck requests state marking .report .attempts) (λ j. attemptIn deck marking j .back .cycles)
   host-cycles =
-      rw (← answers deck requests state h (deckRun deck requests) refl)
-      (let e : ran .made ≡ deckRun deck requests .attempts = omega (arith, ran .attempts) in
+      rw (← answers deck requests state marking h (deckRun deck requests (markingOf marking)) refl)
+      (let e : ran .made ≡ deckRun deck requests (markingOf marking) .attempts = omega (arith, ran .attempts) in
       rw e at (ran .microcycles) ∙ omega arith)

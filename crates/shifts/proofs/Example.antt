@@ -8,6 +8,8 @@ use Rattle.attempt.specs.Attempt.{attemptOf, modifiedOf}
 use Rattle.attempt_laws.specs.Starred.{holding, core, computing}
 use Rattle.numbers.specs.Numbers.{wordAt}
 use Rattle.rows.specs.Range.{rowsInRange}
+use Rattle.state.specs.declared.Core.{Core}
+use Rattle.state.specs.declared.Marking.{Marking}
 use Rattle.state.specs.Range.{InRange, SampleInRange}
 use Rattle.state.specs.Registers.{R}
 use Rattle.shifts.specs.Shifts.{Takes, Doubling, Agrees}
@@ -26,22 +28,26 @@ add = 0x22 ∷ 0xAB ∷ 0 ∷ 0 ∷ []
 abbrev move : List ℕ
 move = 0x42 ∷ 0x82 ∷ 0 ∷ 0 ∷ []
 
-abbrev after : List ℕ
-after = attemptOf move [] before (core 0 true) computing .file
+-- C is set
+abbrev carrying : Core
+carrying = core Marking.CP1621B 0 true
 
-takes-shift : Takes 0x8B 4 2 shift (core 0 true) computing
+abbrev after : List ℕ
+after = attemptOf move [] before carrying computing .file
+
+takes-shift : Takes 0x8B 4 2 shift carrying computing
 unfolding wordAt modifiedOf
 takes-shift = record { reset = refl; compute = refl; lc = omega arith; word = omega arith; top = refl; source = refl; target = refl }
 
-takes-add : Takes 0xAB 2 2 add (core 0 true) computing
+takes-add : Takes 0xAB 2 2 add carrying computing
 unfolding wordAt modifiedOf
 takes-add = record { reset = refl; compute = refl; lc = omega arith; word = omega arith; top = refl; source = refl; target = refl }
 
-takes-move : Takes 0x82 4 2 move (core 0 true) computing
+takes-move : Takes 0x82 4 2 move carrying computing
 unfolding wordAt modifiedOf
 takes-move = record { reset = refl; compute = refl; lc = omega arith; word = omega arith; top = refl; source = refl; target = refl }
 
-state-in-range : InRange before (core 0 true)
+state-in-range : InRange before carrying
 state-in-range =
     record {
       size = refl;
@@ -61,10 +67,10 @@ state-in-range =
 sample-in-range : SampleInRange computing
 sample-in-range = record { dal = omega arith; interrupts = omega arith }
 
-asked : Doubling 0x8B 4 2 shift add [] before after (core 0 true) computing
+asked : Doubling 0x8B 4 2 shift add [] before after carrying computing
 unfolding rowsInRange
 asked =
-    let (same, in-range) = moved-already true 4 2 move [] before (core 0 true) computing refl state-in-range sample-in-range (λ e. (refl, refl)) takes-move in
+    let (same, in-range) = moved-already true 4 2 move [] before carrying computing refl state-in-range sample-in-range (λ e. (refl, refl)) takes-move in
     record {
       shift = refl;
       even = λ e. (refl, refl);
@@ -77,5 +83,5 @@ asked =
       same = same;
     }
 
-pub example-agrees : Agrees (attemptOf shift [] before (core 0 true) computing) (attemptOf add [] after (core 0 true) computing)
-example-agrees = left-shift-agrees 0x8B 4 2 shift add [] before after (core 0 true) computing asked
+pub example-agrees : Agrees (attemptOf shift [] before carrying computing) (attemptOf add [] after carrying computing)
+example-agrees = left-shift-agrees 0x8B 4 2 shift add [] before after carrying computing asked

@@ -4,3 +4,4 @@ pub mod Range
 pub mod Registers
 pub mod Pairs
 pub mod Order
+pub mod Marking

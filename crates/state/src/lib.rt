@@ -1,10 +1,11 @@
-// The state: the register file, lent, and all the rest by value, in four parts that an attempt writes one by one.
+// The state: the register file, lent, and all the rest by value, in parts that an attempt writes one by one.
 use alu::Flags;
 use choose::bit_of;
 ghost use mathlib.Core.Path.{_≡_};
 ghost use Prim.Native.Nat.{_<_, _≤_};
 ghost use Rattle.state.specs.File.{slotOf, highOf, registerOf, writtenOf};
 ghost use Rattle.state.specs.FlagByte.{nibbleOf, flagByteOf, flagsOf};
+ghost use Rattle.state.specs.Marking.{isMarking, markingOf};
 
 // What tells the next word: location counter, return register, translation state register.
 pub struct Address {
@@ -30,13 +31,36 @@ pub struct Latches {
     pub interrupts: u8,
 }
 
-// The outputs are the user's four, bits 18-21 of the last executed word.
+// What is printed on the control chip: CP1661B is the base, CP1621B has Q1.
+pub enum Marking {
+    CP1661B,
+    CP1621B,
+}
+
+// The outputs are the user's four, bits 18-21 of the last executed word. The marking is the set's own: a run names it, and no attempt changes it.
 pub struct Core {
     pub flags: Flags,
     pub address: Address,
     pub bus: Bus,
     pub latches: Latches,
     pub outputs: u8,
+    pub marking: Marking,
+}
+
+pub fn is_marking(number: u32) -> bool
+    ensures { λ r. ⌜ r ≡ isMarking number ⌝ }
+{
+    (number == 1661) | (number == 1621)
+}
+
+// The marking of a number that is one.
+pub fn marking_of(number: u32) -> Marking
+    ensures { λ r. ⌜ r ≡ markingOf number ⌝ }
+{
+    if number == 1621 {
+        return Marking::CP1621B;
+    }
+    Marking::CP1661B
 }
 
 // The lines as one attempt samples them; interrupts are I0-I3.

@@ -1,5 +1,5 @@
 -- The state's bytes against the file and the core: there and back, and in range there and back. Assumes nothing.
-use mathlib.Core.Path.{_≡_, refl}
+use mathlib.Core.Path.{_≡_, refl, sym, ap, _∙_}
 use mathlib.Core.Bool.{Bool, true, false, _||_}
 use mathlib.Core.List.{List, [], _∷_, append-assoc}
 use Prim.Native.Nat.{ℕ, zero, suc, _+_, _%_, _<_, _≤_}
@@ -15,6 +15,7 @@ use Rattle.numbers.proofs.Laws.{pair-low, pair-high, pair-below, take-bytes, ap
 use Rattle.state.specs.FlagByte.{nibbleOf}
 use Rattle.state.specs.Range.{InRange}
 use Rattle.state.specs.declared.Core.{Core}
+use Rattle.state.specs.declared.Marking.{Marking}
 use Rattle.state_bytes.specs.Bytes.{stateBytes, addressOf, busOf, latchesOf, coreOf, padded, fileOf, tailOf, bytesOf, storedOf}
 use Rattle.state_bytes.specs.Range.{addressInRange, latchesInRange, coreInRange, stateInRange}
 use Rattle.state.proofs.Digits.{nibble-le, digits, bits, flag-byte-below, flag-byte-back, flags-back}
@@ -42,34 +43,40 @@ run-is : (s : List ℕ) (n a : ℕ) → length s ≡ a + n → drop a s ≡ run 
 run-is s zero a e = drop-of-length-le s {i = a} (omega arith)
 run-is s (suc n) a e = rw (drop-cons s a 0 (omega arith), run-is s n (suc a) (omega arith))
 
+-- every marking has the same range
+any-marking : (s : List ℕ) (m : Marking) → coreInRange (coreOf s Marking.CP1661B) ≡ coreInRange (coreOf s m)
+unfolding coreInRange coreOf
+any-marking s m = refl
+
 -- what is tested of a state in range
-pub tested : (s : List ℕ) → stateInRange s ≡ true → (length s ≡ stateBytes) × (byteAt s 37 ≤ 15) × (coreInRange (coreOf s) ≡ true)
+pub tested : (s : List ℕ) → stateInRange s ≡ true
+    → (length s ≡ stateBytes) × (byteAt s 37 ≤ 15) × ((m : Marking) → coreInRange (coreOf s m) ≡ true)
 unfolding stateInRange
 tested s h =
-    let p = three (eqb (length s) stateBytes) (leb (byteAt s 37) 15) (coreInRange (coreOf s)) h in
-    (eqb-true _ _ (p .0), leb-true _ _ (p .1), p .2)
+    let p = three (eqb (length s) stateBytes) (leb (byteAt s 37) 15) (coreInRange (coreOf s Marking.CP1661B)) h in
+    (eqb-true _ _ (p .0), leb-true _ _ (p .1), (λ m. sym (any-marking s m) ∙ p .2))
 
-tail-back : (s : List ℕ) → Bytes s → byteAt s 37 ≤ 15 → tailOf (coreOf s) ≡ run s 26 16
+tail-back : (s : List ℕ) (m : Marking) → Bytes s → byteAt s 37 ≤ 15 → tailOf (coreOf s m) ≡ run s 26 16
 unfolding tailOf coreOf addressOf busOf latchesOf
-tail-back s b h =
+tail-back s m b h =
     let marks : byteAt s 37 % 16 ≡ byteAt s 37 = omega arith in
     rw (flag-byte-back (byteAt s 27) (byte-below s b 27), digits (byteAt s 37), marks, pair-low s b 28, pair-high s b 28, pair-low s b 30, pair-high s b 30)
     (rw (pair-low s b 32, pair-high s b 32, pair-low s b 34, pair-high s b 34, pair-low s b 39, pair-high s b 39))
 
 -- the file and the core of a state in range give its bytes again
-pub bytes-back : (s : List ℕ) → Bytes s → stateInRange s ≡ true → bytesOf (fileOf s) (coreOf s) ≡ s
+pub bytes-back : (s : List ℕ) (m : Marking) → Bytes s → stateInRange s ≡ true → bytesOf (fileOf s) (coreOf s m) ≡ s
 unfolding fileOf
-bytes-back s b h =
+bytes-back s m b h =
     let t = tested s h in
-    rw (take-append-le 26 s _ (omega arith), tail-back s b (t .1), ← run-is s 16 26 (t .0)) (take-append-drop 26 s)
+    rw (take-append-le 26 s _ (omega arith), tail-back s m b (t .1), ← run-is s 16 26 (t .0)) (take-append-drop 26 s)
 
 -- ---- to the bytes and back
 -- the byte at 26 + j, after the registers
 pub tail-at : (xs : List ℕ) (k : Core) → length xs ≡ 26 → (j : ℕ) → byteAt (bytesOf xs k) (26 + j) ≡ byteAt (tailOf k) j
 tail-at xs k e j = rw (← e) (getD-append-add xs (tailOf k) j 0)
 
--- the bytes of a core give it again, whatever the registers before them
-pub core-back : (xs : List ℕ) (k : Core) → length xs ≡ 26 → coreOf (bytesOf xs k) ≡ k
+-- the bytes of a core and its marking give it again, whatever the registers before them
+pub core-back : (xs : List ℕ) (k : Core) → length xs ≡ 26 → coreOf (bytesOf xs k) (k .marking) ≡ k
 unfolding coreOf addressOf busOf latchesOf tailOf
 core-back xs k e =
     let at = tail-at xs k e in
@@ -104,7 +111,9 @@ marks-le xs k e = rw (tail-at xs k e 11) (nibble-le (k .latches .marked) (k .bus
 pub bytes-in-range : (xs : List ℕ) (k : Core) → InRange xs k → stateInRange (bytesOf xs k) ≡ true
 unfolding stateInRange
 bytes-in-range xs k r =
-    rw (eq-eqb _ _ (bytes-length xs k (r .size)), le-leb _ _ (marks-le xs k (r .size)), core-back xs k (r .size), core-true xs k r)
+    let same : coreInRange (coreOf (bytesOf xs k) Marking.CP1661B) ≡ true
+    = any-marking (bytesOf xs k) (k .marking) ∙ ap coreInRange (core-back xs k (r .size)) ∙ core-true xs k r in
+    rw (eq-eqb _ _ (bytes-length xs k (r .size)), le-leb _ _ (marks-le xs k (r .size)), same)
 
 -- what is tested of a core in range, and that its wide parts have 16 bits
 in-range : (xs : List ℕ) (k : Core) → length xs ≡ 26 → Bytes xs → coreInRange k ≡ true
@@ -135,10 +144,10 @@ unfolding fileOf
 file-bytes s b = take-bytes 26 (padded s 26) (append-bytes s _ b (omega arith))
 
 -- a state in range holds a file and a core in range
-pub state-in-range : (s : List ℕ) → Bytes s → stateInRange s ≡ true → InRange (fileOf s) (coreOf s)
+pub state-in-range : (s : List ℕ) (m : Marking) → Bytes s → stateInRange s ≡ true → InRange (fileOf s) (coreOf s m)
 unfolding coreOf busOf latchesOf
-state-in-range s b h =
-    in-range (fileOf s) (coreOf s) (file-length s) (file-bytes s b) (tested s h .2) (pair-below s b 34) (pair-below s b 32) (pair-below s b 39)
+state-in-range s m b h =
+    in-range (fileOf s) (coreOf s m) (file-length s) (file-bytes s b) (tested s h .2 m) (pair-below s b 34) (pair-below s b 32) (pair-below s b 39)
 
 tail-bytes : (xs : List ℕ) (k : Core) → InRange xs k → Bytes (tailOf k)
 unfolding tailOf

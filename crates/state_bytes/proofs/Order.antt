@@ -17,6 +17,7 @@ use Rattle.state.specs.Range.{InRange}
 use Rattle.state.specs.Registers.{nameOf, nameAt, Designates}
 use Rattle.state.specs.FlagByte.{nibbleOf}
 use Rattle.state.specs.declared.Core.{Core}
+use Rattle.state.specs.declared.Marking.{Marking}
 use Rattle.state.proofs.Digits.{digits}
 use Rattle.state.proofs.Order.{flags-order, flag-byte-order}
 use Rattle.state.proofs.Registers.{named, one-place, every-place}
@@ -31,9 +32,9 @@ pub state-length : stateBytes ≡ startOf 11 stateLimits
 state-length = refl
 
 -- as they are read
-pub core-order : (s : List ℕ) → Bytes s → byteAt s 37 < 16 → LaidOut s registersWide (stateOrder (coreOf s))
+pub core-order : (s : List ℕ) (m : Marking) → Bytes s → byteAt s 37 < 16 → LaidOut s registersWide (stateOrder (coreOf s m))
 unfolding coreOf addressOf busOf latchesOf nibbleOf
-core-order s b h =
+core-order s m b h =
     let flags = flags-order (byteAt s 27) (byte-below s b 27) in
     let marks = digits (byteAt s 37) in
     omega arith
@@ -66,7 +67,7 @@ module _ (s : List ℕ) (b : Bytes s) where
   limits-hold : stateInRange s ≡ true → StateInRange s
   unfolding coreOf addressOf busOf latchesOf
   limits-hold h =
-      let r = state-in-range s b h in
+      let r = state-in-range s Marking.CP1661B b h in
       let (size, marks, core) = tested s h in
       let flags = byte-below s b 27 in
       record {
@@ -75,7 +76,7 @@ module _ (s : List ℕ) (b : Bytes s) where
         unmarked = λ u. omega (arith, r .unmarked (ne-eqb (byteAt s 37 / 8 % 2) 1 (λ e. omega arith)));
       }
 
-  holds-inside : StateInRange s → InRange (fileOf s) (coreOf s)
+  holds-inside : StateInRange s → InRange (fileOf s) (coreOf s Marking.CP1661B)
   unfolding coreOf addressOf busOf latchesOf
   holds-inside h =
       let l = h .limits in
@@ -100,5 +101,5 @@ module _ (s : List ℕ) (b : Bytes s) where
     limits-hold,
     (λ h.
         let l = h .limits in
-        rw (eq-eqb _ stateBytes (h .size), le-leb (byteAt s 37) 15 (omega arith), core-true (fileOf s) (coreOf s) (holds-inside h))),
+        rw (eq-eqb _ stateBytes (h .size), le-leb (byteAt s 37) 15 (omega arith), core-true (fileOf s) (coreOf s Marking.CP1661B) (holds-inside h))),
   )

@@ -13,6 +13,7 @@ use Rattle.state.specs.declared.Address.{Address}
 use Rattle.state.specs.declared.Bus.{Bus}
 use Rattle.state.specs.declared.Latches.{Latches}
 use Rattle.state.specs.declared.Core.{Core}
+use Rattle.state.specs.declared.Marking.{Marking}
 
 -- how many bytes a state has, in a deck and in the host's buffer
 abbrev pub stateBytes : ℕ
@@ -41,14 +42,16 @@ latchesOf s =
       modification = pairAt s 39;
     }
 
-unfoldable pub coreOf : List ℕ → Core
-coreOf s =
+-- in a set of this marking: the bytes do not say it
+unfoldable pub coreOf : List ℕ → Marking → Core
+coreOf s marking =
     record {
       flags = flagsOf (byteAt s 27);
       address = addressOf s;
       bus = busOf s;
       latches = latchesOf s;
       outputs = byteAt s 41;
+      marking = marking;
     }
 
 -- the bytes s, and n zeros for what is missing
@@ -60,8 +63,8 @@ unfoldable pub fileOf : List ℕ → List ℕ
 fileOf s = take 26 (padded s 26)
 
 -- what `load` makes of the bytes s: a core, and the register file
-pub record Loaded (s : List ℕ) (k : Core) (xs : List ℕ) : Type 0 where
-  pub core : k ≡ coreOf s
+pub record Loaded (s : List ℕ) (marking : Marking) (k : Core) (xs : List ℕ) : Type 0 where
+  pub core : k ≡ coreOf s marking
   pub file : xs ≡ fileOf s
 
 -- ---- to the bytes

@@ -9,6 +9,7 @@ use Rattle.numbers.specs.Numbers.{byteAt}
 use Rattle.state.specs.declared.Address.{Address}
 use Rattle.state.specs.declared.Latches.{Latches}
 use Rattle.state.specs.declared.Core.{Core}
+use Rattle.state.specs.declared.Marking.{Marking}
 use Rattle.state_bytes.specs.Bytes.{stateBytes, coreOf}
 
 unfoldable pub addressInRange : Address → Bool
@@ -20,6 +21,6 @@ latchesInRange l = leb (l .g) 7 && leb (l .interrupts) 7 && (l .marked || eqb (l
 unfoldable pub coreInRange : Core → Bool
 coreInRange k = addressInRange (k .address) && latchesInRange (k .latches) && leb (k .outputs) 15
 
--- refusal 1 is given exactly when the state's bytes are not this; marks has four bits
+-- refusal 1 is given exactly when the state's bytes are not this; marks has four bits. Every marking has the same range
 unfoldable pub stateInRange : List ℕ → Bool
-stateInRange s = eqb (length s) stateBytes && leb (byteAt s 37) 15 && coreInRange (coreOf s)
+stateInRange s = eqb (length s) stateBytes && leb (byteAt s 37) 15 && coreInRange (coreOf s Marking.CP1661B)

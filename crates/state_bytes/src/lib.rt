@@ -3,6 +3,7 @@ use state::Address;
 use state::Bus;
 use state::Core;
 use state::Latches;
+use state::Marking;
 ghost use mathlib.Core.Path.{_≡_};
 ghost use Prim.Native.Nat.{_+_, _≤_};
 ghost use lib.ListN.{length};
@@ -48,8 +49,8 @@ fn latches_in(s: &[u8]) -> Latches
     }
 }
 
-fn core_in(s: &[u8]) -> Core
-    ensures { λ r. ⌜ r ≡ coreOf (now (s .entry)) ⌝ }
+fn core_in(s: &[u8], marking: Marking) -> Core
+    ensures { λ r. ⌜ r ≡ coreOf (now (s .entry)) marking ⌝ }
 {
     let flags = state::flags_in(numbers::byte_at(s, 27));
     let address = address_in(s);
@@ -61,6 +62,7 @@ fn core_in(s: &[u8]) -> Core
         bus: bus,
         latches: latches,
         outputs: numbers::byte_at(s, 41),
+        marking,
     }
 }
 
@@ -76,12 +78,12 @@ fn fill(dst: &mut [u8], at: usize, src: &[u8], n: usize)
     }
 }
 
-// The core of a state's bytes; the registers go into the file.
-pub fn load(s: &[u8], file: &mut [u8; 26]) -> Core
-    ensures { λ r. ⌜ Loaded (now (s .entry)) r (now (file .exit)) ⌝ }
+// The core of a state's bytes, in a set of this marking; the registers go into the file.
+pub fn load(s: &[u8], marking: Marking, file: &mut [u8; 26]) -> Core
+    ensures { λ r. ⌜ Loaded (now (s .entry)) marking r (now (file .exit)) ⌝ }
 {
     fill(file, 0, s, 26);
-    core_in(s)
+    core_in(s, marking)
 }
 
 // The bytes after the registers.
@@ -143,9 +145,11 @@ fn core_in_range(core: Core) -> bool
     address_in_range(a) & latches_in_range(l) & (core.outputs <= 15)
 }
 
-// The unused bits of marks are tested apart: the core does not hold them.
+// The unused bits of marks are tested apart: the core does not hold them. Every marking has the same range.
 pub fn in_range(s: &[u8]) -> bool
     ensures { λ r. ⌜ r ≡ stateInRange (now (s .entry)) ⌝ }
 {
-    (s.len() == STATE_BYTES) & (numbers::byte_at(s, 37) <= 15) & core_in_range(core_in(s))
+    (s.len() == STATE_BYTES)
+        & (numbers::byte_at(s, 37) <= 15)
+        & core_in_range(core_in(s, Marking::CP1661B))
 }

@@ -83,6 +83,7 @@ coreAfter k f w =
       bus = k .bus;
       latches = used (k .latches);
       outputs = userBits w;
+      marking = k .marking;
     }
 
 abbrev pub endedAt : Core → Leaves Flags → ℕ → Bool → Leaves Outcome

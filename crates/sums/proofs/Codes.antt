@@ -50,9 +50,9 @@ module _ (c : ℕ) (h : Working c) where
   unfolding waitingOf ranged
   goes-on s = rw no-waits
 
-  pub bus-kept : (bus : Bus) (b pair : ℕ) → busAfter bus c b pair ≡ bus
+  pub bus-kept : (bus : Bus) (rmw : Bool) (pair : ℕ) → busAfter bus c rmw pair ≡ bus
   unfolding busAfter
-  bus-kept bus b pair = in-arm c _ _ 0 0x80 tt (h .0) (h .1)
+  bus-kept bus rmw pair = in-arm c _ _ 0 0x80 tt (h .0) (h .1)
 
   pub latches-kept : (l : Latches) (b ra pair : ℕ) (s : Sample) → latchesAfter l c b ra pair s ≡ used l
   unfolding latchesAfter

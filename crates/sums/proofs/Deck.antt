@@ -13,6 +13,7 @@ use Rattle.deck.specs.Sections.{sectionEnd, layoutOf, wholeOf, sectionOf, words
 use Rattle.engine.specs.Host.{reported, hostOf}
 use Rattle.engine.specs.Run.{World, world, samplesFrom}
 use Rattle.state.specs.FlagByte.{flagByteOf, nibbleOf}
+use Rattle.state.specs.Marking.{markingOf}
 use Rattle.state_bytes.specs.Bytes.{stateBytes, addressOf, latchesOf, coreOf, fileOf}
 use Rattle.state_bytes.specs.Range.{addressInRange, latchesInRange, coreInRange, stateInRange}
 use Rattle.sums.specs.Host.{deckStart, DeckReady, handedBack}
@@ -49,6 +50,9 @@ requests = 9 ∷ 9 ∷ 9 ∷ 9 ∷ []
 abbrev state : List ℕ
 state = replicate stateBytes 9
 
+abbrev marking : ℕ
+marking = 1661
+
 -- R2 gains R3
 abbrev cut : Cut
 cut = byte 2 3 ∷ []
@@ -66,12 +70,12 @@ in-range = (refl, refl, refl)
 fair : Fair cut
 fair = record { some = omega arith; different = omega arith; even = tt }
 
-ready : DeckReady (instructionsOf plus false cut) deck requests state
+ready : DeckReady (instructionsOf plus false cut) deck requests state marking
 unfolding wordAt coreOf addressOf latchesOf samplesFrom sampleAt
 ready =
     record {
       bytes = bytes-tested deck refl;
-      accepted = let-in deck word before sample 4 read (in-range .0) (in-range .1) (in-range .2) (omega arith);
+      accepted = let-in deck word before sample 4 marking read refl (in-range .0) (in-range .1) (in-range .2) (omega arith);
       in-place = rw (read .words, read .state) (omega arith);
       computing = rw (read .samples) (refl, refl, tt);
       no-rows = read .rows;
@@ -80,21 +84,21 @@ ready =
 
 -- ---- so its line is 01's: answer, attempts, microcycles, LC, flag byte; and R2 is 0
 
-flag-byte : (w : World) → Summed plus cut (wordsPart deck) (deckStart deck requests) w → (getD (w .file) 12 0 ≡ 0) × (flagByteOf (w .core .flags) ≡ 87)
+flag-byte : (w : World) → Summed plus cut (wordsPart deck) (deckStart deck requests marking) w → (getD (w .file) 12 0 ≡ 0) × (flagByteOf (w .core .flags) ≡ 87)
 unfolding flagByteOf nibbleOf fileOf
 flag-byte w h =
-    let s : Summed plus cut (wordsPart deck) (world file (coreOf before) 0 0 0 requests) w = rw (read .state) at h in
+    let s : Summed plus cut (wordsPart deck) (world file (coreOf before (markingOf marking)) 0 0 0 requests) w = rw (read .state) at h in
     let r2 : getD (w .file) 12 0 ≡ 0 = omega (arith, s .target) in
     let f : Marked plus 1 255 1 0 (w .core .flags) = rw r2 at (s .flags) in
     (r2, rw (f .nb, f .zb, f .n, f .z, f .v, f .c8, f .c, f .c4))
 
-line : let h = hostOf deck requests state in
+line : let h = hostOf deck requests state marking in
     (h .report ≡ reported 0 1 1)
-    × (handedBack h .core .address .lc ≡ 1)
-    × (getD (handedBack h .file) 12 0 ≡ 0)
-    × (flagByteOf (handedBack h .core .flags) ≡ 87)
+    × (handedBack marking h .core .address .lc ≡ 1)
+    × (getD (handedBack marking h .file) 12 0 ≡ 0)
+    × (flagByteOf (handedBack marking h .core .flags) ≡ 87)
 unfolding coreOf addressOf
 line =
-    let s = host-sum plus cut deck requests state fair ready in
-    let f = flag-byte (handedBack (hostOf deck requests state)) (s .summed) in
+    let s = host-sum plus cut deck requests state marking fair ready in
+    let f = flag-byte (handedBack marking (hostOf deck requests state marking)) (s .summed) in
     (s .handed .report, rw (read .state) at (s .summed .advanced .lc), f .0, f .1)

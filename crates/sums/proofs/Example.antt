@@ -14,6 +14,7 @@ use Rattle.engine.specs.Host.{Hosted, reported, hostOf}
 use Rattle.engine.specs.Run.{World, world, samplesFrom}
 use Rattle.numbers.specs.Numbers.{wordAt, Bytes}
 use Rattle.state.specs.FlagByte.{flagByteOf, nibbleOf}
+use Rattle.state.specs.Marking.{markingOf}
 use Rattle.state_bytes.specs.Bytes.{stateBytes, addressOf, busOf, latchesOf, coreOf, fileOf, tailOf, bytesOf}
 use Rattle.state_bytes.specs.Range.{addressInRange, latchesInRange, coreInRange, stateInRange}
 use Rattle.sums.specs.Host.{deckStart, DeckReady, handedBack, HostBackInOneRun}
@@ -69,8 +70,11 @@ requests = replicate 21 9
 abbrev state : List ℕ
 state = replicate stateBytes 9
 
+abbrev marking : ℕ
+marking = 1621
+
 abbrev host : Hosted
-host = hostOf deck requests state
+host = hostOf deck requests state marking
 
 -- ---- it is let in, and demand 3 speaks of it
 
@@ -105,12 +109,12 @@ bytes : Bytes deck
 unfolding deck words
 bytes = bytes-tested deck refl
 
-ready : DeckReady (thereAndBack there back) deck requests state
+ready : DeckReady (thereAndBack there back) deck requests state marking
 unfolding wordAt coreOf addressOf latchesOf samplesFrom sampleAt
 ready =
     record {
       bytes = bytes;
-      accepted = let-in deck words before lines 21 read (in-range .0) words-in-range (in-range .1) (omega arith);
+      accepted = let-in deck words before lines 21 marking read refl (in-range .0) words-in-range (in-range .1) (omega arith);
       in-place = rw (read .words, read .state) in-place;
       computing = rw (read .samples) (refl, refl, (refl, refl, (refl, refl, (refl, refl, (refl, refl, tt)))));
       no-rows = read .rows;
@@ -119,26 +123,26 @@ ready =
 
 -- ---- so it ends as said above: five attempts and six microcycles, all registers as before, and the rest of the state's bytes
 
-both : HostBackInOneRun there back deck requests host
-both = host-back-in-one-run there back deck requests state two ready
+both : HostBackInOneRun there back deck requests marking host
+both = host-back-in-one-run there back deck requests state marking two ready
 
 report : host .report ≡ reported 0 5 6
 report = both .handed .report
 
-flags : flagByteOf (handedBack host .core .flags) ≡ 0xBA
+flags : flagByteOf (handedBack marking host .core .flags) ≡ 0xBA
 unfolding flagByteOf nibbleOf fileOf
 flags =
-    let f : Marked minus 3 0x01FF01 0x80FF02 0x80 (handedBack host .core .flags) = rw (read .state) at (both .run .restored .flags) in
+    let f : Marked minus 3 0x01FF01 0x80FF02 0x80 (handedBack marking host .core .flags) = rw (read .state) at (both .run .restored .flags) in
     rw (f .nb, f .zb, f .n, f .z, f .v, f .c8, f .c, f .c4)
 
 -- what is said of the state says each of its bytes
-all-bytes : (w : World) → flagByteOf (w .core .flags) ≡ 0xBA → BackInOneRun there back (wordsPart deck) (deckStart deck requests) w
+all-bytes : (w : World) → flagByteOf (w .core .flags) ≡ 0xBA → BackInOneRun there back (wordsPart deck) (deckStart deck requests marking) w
     → bytesOf (w .file) (w .core) ≡ after
 unfolding words tailOf fileOf coreOf addressOf busOf latchesOf nibbleOf wordAt
 all-bytes w f b =
-    let c : BackInOneRun there back words (world (fileOf before) (coreOf before) 0 0 0 requests) w = rw (read .words, read .state) at b in
+    let c : BackInOneRun there back words (world (fileOf before) (coreOf before (markingOf marking)) 0 0 0 requests) w = rw (read .words, read .state) at b in
     let a = c .advanced in
     rw (f, a .lc, a .rr, a .tsr, a .bus, a .latches, a .outputs, c .restored .registers)
 
 state-after : host .state ≡ after
-state-after = both .handed .state ∙ all-bytes (handedBack host) flags (both .run)
+state-after = both .handed .state ∙ all-bytes (handedBack marking host) flags (both .run)

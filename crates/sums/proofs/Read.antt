@@ -9,6 +9,7 @@ use Rattle.deck.specs.Ranges.{wordsInRange, rowsPartInRange, samplesInRange, de
 use Rattle.deck.specs.Sections.{wholeOf, wordsPart, rowsPart, statePart, samplesPart}
 use Rattle.rows.specs.Range.{rowsInRange}
 use Rattle.rows.specs.Section.{rowsOf}
+use Rattle.state.specs.Marking.{isMarking}
 use Rattle.state_bytes.specs.Bytes.{stateBytes}
 use Rattle.state_bytes.specs.Range.{stateInRange}
 
@@ -24,13 +25,14 @@ unfolding rowsPartInRange rowsInRange rowsOf
 no-rows = refl
 
 -- parts in range are let in
-pub let-in : (deck ws before lines : List ℕ) (requests : ℕ) → Read deck ws before lines → stateInRange before ≡ true → wordsInRange ws ≡ true
-    → samplesInRange lines ≡ true → length lines / 4 ≤ requests / 4 → deckRefusalOf deck requests stateBytes ≡ 0
-let-in deck ws before lines requests r s w l p =
-    not-refused deck requests stateBytes
+pub let-in : (deck ws before lines : List ℕ) (requests marking : ℕ) → Read deck ws before lines → isMarking marking ≡ true → stateInRange before ≡ true
+    → wordsInRange ws ≡ true → samplesInRange lines ≡ true → length lines / 4 ≤ requests / 4 → deckRefusalOf deck requests stateBytes marking ≡ 0
+let-in deck ws before lines requests marking r m s w l p =
+    not-refused deck requests stateBytes marking
     (record {
       whole = r .whole;
       buffer-length = refl;
+      known = m;
       state = rw (r .state) s;
       words = rw (r .words) w;
       rows = rw (r .rows) no-rows;

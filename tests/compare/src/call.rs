@@ -1,8 +1,8 @@
 //! One call of `run` and what it leaves behind.
 
-use interpreter::Report;
+use interpreter::{Marking, Report};
 
-/// The deck and both buffers as they are before.
+/// The deck, both buffers as they are before, and the marking.
 #[derive(Clone, Debug)]
 pub struct Call {
     /// The deck's bytes.
@@ -11,10 +11,12 @@ pub struct Call {
     pub requests: Vec<u8>,
     /// The state buffer.
     pub state: Vec<u8>,
+    /// The number of the marking.
+    pub marking: u32,
 }
 
 impl Call {
-    /// Buffers of these lengths, filled with a pattern that shows a byte which moved.
+    /// Buffers of these lengths, filled with a pattern that shows a byte which moved; CP1661B.
     pub fn patterned(deck: Vec<u8>, requests: usize, state: usize) -> Self {
         let pattern =
             |start: usize, len: usize| (0..len).map(|at| ((start + at) * 151) as u8).collect();
@@ -22,13 +24,19 @@ impl Call {
             requests: pattern(deck.len(), requests),
             state: pattern(deck.len() + 1, state),
             deck,
+            marking: Marking::Cp1661b.number(),
         }
+    }
+
+    /// The call under the marking of this number.
+    pub fn marked(self, marking: u32) -> Self {
+        Self { marking, ..self }
     }
 
     /// What the interpreter leaves behind.
     pub fn interpreted(&self) -> Left {
         let (mut requests, mut state) = (self.requests.clone(), self.state.clone());
-        let report = interpreter::run(&self.deck, &mut requests, &mut state);
+        let report = interpreter::run(&self.deck, &mut requests, &mut state, self.marking);
         Left {
             report,
             damage: 0,

@@ -22,6 +22,9 @@ pub const KINDS: [&str; 13] = [
     "compute-low",
 ];
 
+/// The kind of what IB and IW take.
+pub const DATA_IN: u32 = 5;
+
 /// The kind of a wait. Kinds from here on are of attempts that executed nothing.
 pub const WAIT: u32 = 10;
 

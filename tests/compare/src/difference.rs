@@ -22,7 +22,8 @@ pub fn explain(engine: &Engine, call: &Call) -> io::Result<String> {
     };
     let [deck, requests, state] = [&call.deck, &call.requests, &call.state].map(Vec::len);
     lines.push(format!(
-        "bytes: deck {deck}, request buffer {requests}, state buffer {state}"
+        "marking {}; bytes: deck {deck}, request buffer {requests}, state buffer {state}",
+        call.marking
     ));
     match left(engine, &call)? {
         Some(got) => lines.extend(describe::differences(&call.interpreted(), &got)),

@@ -50,6 +50,25 @@ impl Driver {
         }
         Ok(answers)
     }
+
+    /// Runs all calls, and hands each to `judge` with its answer. A call that kills the driver has none,
+    /// and those behind it are made anew.
+    pub fn judge<C: Asked>(
+        &self,
+        calls: &[C],
+        mut judge: impl FnMut(usize, Option<&C::Answer>),
+    ) -> io::Result<()> {
+        let mut done = 0;
+        while done < calls.len() {
+            let answers = self.run(&calls[done..])?;
+            let answers = answers.iter().map(Some).chain([None]);
+            for answer in answers.take(calls.len() - done) {
+                judge(done, answer);
+                done += 1;
+            }
+        }
+        Ok(())
+    }
 }
 
 fn send<C: Asked>(calls: &[C], input: impl Write) -> io::Result<()> {

@@ -47,6 +47,7 @@ impl Asked for Call {
         for part in parts {
             input.write_all(&(part.len() as u32).to_le_bytes())?;
         }
+        input.write_all(&self.marking.to_le_bytes())?;
         for part in parts {
             input.write_all(part)?;
         }

@@ -28,6 +28,16 @@ impl Tally {
             }
         }
     }
+
+    /// Counts the slips that were noticed, of so many; one that was not is a failure.
+    pub fn slips<'a>(&mut self, all: usize, unnoticed: impl ExactSizeIterator<Item = &'a str>) {
+        let noticed = all - unnoticed.len();
+        println!("{noticed} of {all} slips noticed");
+        self.passed += noticed;
+        for name in unnoticed {
+            self.check(Some(format!("nothing notices: {name}")));
+        }
+    }
 }
 
 /// Prints a program's counts, or why it has none, and gives its status.

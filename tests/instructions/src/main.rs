@@ -7,10 +7,11 @@ mod setting;
 mod vector;
 
 use compare::call::Call;
-use compare::describe::{wrong, WAIT};
+use compare::describe::{wrong, DATA_IN, WAIT};
 use compare::engine::Engine;
 use compare::listing;
 use compare::tally::{ended, Tally};
+use interpreter::Marking;
 use setting::Setting;
 use std::env;
 use std::process::ExitCode;
@@ -76,7 +77,7 @@ fn missing(vectors: &[Vector]) -> usize {
             missing += 1;
         }
     }
-    missing + without_crosswise(vectors)
+    missing + without_crosswise(vectors) + without_q1(vectors)
 }
 
 /// Counts and tells the codes with two pairs that no vector has crosswise, with a even and with a odd.
@@ -87,6 +88,27 @@ fn without_crosswise(vectors: &[Vector]) -> usize {
             let word = u32::from(top) << 8 | (a ^ 1) << 4 | a;
             if !vectors.iter().any(|vector| vector.word == word) {
                 println!("{top:02X}: no crosswise vector with a {a}");
+                missing += 1;
+            }
+        }
+    }
+    missing
+}
+
+/// Counts and tells the input codes that no vector has as an RMW under CP1621B, with SYNC falling and
+/// with SYNC as it was.
+fn without_q1(vectors: &[Vector]) -> usize {
+    let mut missing = 0;
+    for top in 0xE0..=0xE3 {
+        for sync in [Some(0), None] {
+            let shown = |vector: &&Vector| {
+                let rmw = vector.word >> 8 == top && vector.word & 0xC0 == 0x40;
+                let completes = vector.gives("request").unwrap_or(0) >> 16 == DATA_IN;
+                rmw && completes && vector.marking == Marking::Cp1621b
+            };
+            let mut shown = vectors.iter().filter(shown);
+            if !shown.any(|vector| vector.gives("SYNC") == sync) {
+                println!("{top:02X}: no RMW vector under CP1621B that leaves SYNC {sync:?}");
                 missing += 1;
             }
         }

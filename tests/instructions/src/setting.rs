@@ -30,8 +30,10 @@ impl<'a> Setting<'a> {
             rows: Vec::new(),
             state: before.to_bytes(),
             sample: sample(&vector.sample, high)?,
+            marking: vector.marking,
         };
         let call = Call::patterned(single.deck(), 8, STATE_BYTES);
+        let call = call.marked(single.marking.number());
         let expected = expected(vector, &call, before)?;
         Ok(Self {
             vector,

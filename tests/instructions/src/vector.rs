@@ -1,6 +1,7 @@
 //! Vectors as the text has them.
 
 use compare::describe::KINDS;
+use interpreter::Marking;
 
 /// A name and its number: a register, a flag, a line, the request.
 pub type Term = (String, u32);
@@ -13,6 +14,8 @@ pub struct Vector {
     pub line: usize,
     /// The word, 22 bits.
     pub word: u32,
+    /// The marking, CP1661B where none is named.
+    pub marking: Marking,
     /// What matters of the state before.
     pub before: Vec<Term>,
     /// What matters of the sample.
@@ -70,10 +73,12 @@ fn part(
 ) -> Option<()> {
     if label == "given" {
         let (word, before) = words.split_first()?;
+        let (marking, before) = marked(before)?;
         vectors.push(Vector {
             key: key.to_string(),
             line,
             word: hexadecimal(word)?,
+            marking,
             before: terms(before)?,
             sample: Vec::new(),
             after: Vec::new(),
@@ -88,6 +93,15 @@ fn part(
         _ => return None,
     }
     Some(())
+}
+
+/// The marking, when the first word names it, and the words after it.
+fn marked<'a>(words: &'a [&'a str]) -> Option<(Marking, &'a [&'a str])> {
+    let named = words.first().and_then(|word| word.strip_prefix("marking="));
+    match named {
+        Some(number) => Some((Marking::from_number(number.parse().ok()?)?, &words[1..])),
+        None => Some((Marking::Cp1661b, words)),
+    }
 }
 
 fn terms(words: &[&str]) -> Option<Vec<Term>> {

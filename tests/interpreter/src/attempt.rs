@@ -2,6 +2,7 @@
 
 use crate::code::{Wait, CODES};
 use crate::execute::{execute, request, LOAD_RR, RNI};
+use crate::marking::Marking;
 use crate::row::{pack, translate, Row};
 use crate::sample::Sample;
 use crate::state::State;
@@ -20,9 +21,15 @@ pub enum Outcome {
     Refused(u8),
 }
 
-/// One attempt with this sample.
+/// One attempt with this sample, on a board of this marking.
 #[inline]
-pub fn attempt(words: &[u32], rows: &[Row], state: &mut State, sample: Sample) -> Outcome {
+pub fn attempt(
+    words: &[u32],
+    rows: &[Row],
+    state: &mut State,
+    sample: Sample,
+    marking: Marking,
+) -> Outcome {
     if sample.reset {
         state.lc = 1;
         state.sync = false;
@@ -49,7 +56,7 @@ pub fn attempt(words: &[u32], rows: &[Row], state: &mut State, sample: Sample) -
         return idle(10);
     }
     Outcome::Done {
-        request: perform(word, rows, state, sample),
+        request: perform(word, rows, state, sample, marking),
         microcycles: u32::from(code.cycles),
     }
 }
@@ -74,7 +81,7 @@ fn waits(wait: Wait, sample: Sample) -> bool {
 
 /// Executes the word, translates, and goes to the next word; gives the request.
 #[inline]
-fn perform(word: u32, rows: &[Row], state: &mut State, sample: Sample) -> u32 {
+fn perform(word: u32, rows: &[Row], state: &mut State, sample: Sample, marking: Marking) -> u32 {
     // Rows see the state before the attempt.
     let translated = translate(rows, key(word, state, sample));
     let next = (state.lc + 1) & 2047;
@@ -88,7 +95,7 @@ fn perform(word: u32, rows: &[Row], state: &mut State, sample: Sample) -> u32 {
     if let Some(tsr) = translated.tsr() {
         state.tsr = tsr;
     }
-    let done = execute(word, state, sample);
+    let done = execute(word, state, sample, marking);
     state.lc = done.jump.unwrap_or(otherwise);
     if word & LOAD_RR != 0 {
         state.rr = next;

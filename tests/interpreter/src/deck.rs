@@ -1,12 +1,16 @@
 //! The bench host's entry over a deck's bytes.
 
 use crate::attempt::{attempt, Outcome};
+use crate::marking::Marking;
 use crate::row::Row;
 use crate::sample::Sample;
 use crate::state::{State, STATE_BYTES};
 
 /// The most bytes that a deck may have.
 pub const DECK_LIMIT: usize = 65_536;
+
+/// The most words.
+pub(crate) const WORDS_LIMIT: usize = 2048;
 
 /// What [`run`] returns.
 #[derive(Clone, Copy, Debug, PartialEq, Eq)]
@@ -19,8 +23,9 @@ pub struct Report {
     pub microcycles: u32,
 }
 
-/// A deck whose four sections are in range.
+/// A deck whose four sections are in range, and the marking of its run.
 struct Deck<'a> {
+    marking: Marking,
     words: Vec<u32>,
     rows: Vec<Row>,
     state: State,
@@ -39,15 +44,15 @@ struct Sections<'a> {
 /// Runs a deck: one attempt for each sample until all are used or one is refused.
 ///
 /// The request of attempt `i` is written at place `i` of `requests`, four bytes low first. After
-/// answers 0, 5, 6 and 8 `state` holds the state; after 1-4 and 9 both buffers are untouched.
-pub fn run(deck: &[u8], requests: &mut [u8], state: &mut [u8]) -> Report {
+/// answers 0, 5, 6 and 8 `state` holds the state; after 9, 24 and 1-4 both buffers are untouched.
+pub fn run(deck: &[u8], requests: &mut [u8], state: &mut [u8], marking: u32) -> Report {
     let mut report = Report {
         answer: 0,
         attempts: 0,
         microcycles: 0,
     };
     let opened = match <&mut [u8; STATE_BYTES]>::try_from(state) {
-        Ok(returned) => open(deck, requests.len() / 4).map(|deck| (deck, returned)),
+        Ok(returned) => open(deck, requests.len() / 4, marking).map(|deck| (deck, returned)),
         Err(_) => Err(9),
     };
     let (mut deck, returned) = match opened {
@@ -60,6 +65,7 @@ pub fn run(deck: &[u8], requests: &mut [u8], state: &mut [u8]) -> Report {
             &deck.rows,
             &mut deck.state,
             Sample::decode(sample),
+            deck.marking,
         ) {
             Outcome::Done {
                 request,
@@ -79,17 +85,18 @@ pub fn run(deck: &[u8], requests: &mut [u8], state: &mut [u8]) -> Report {
     report
 }
 
-/// The deck in these bytes, or the refusal: 9, 1, 2, 3 or 4, the first that applies.
-fn open(bytes: &[u8], places: usize) -> Result<Deck<'_>, u32> {
+/// The deck in these bytes, or the refusal: 9, 24, 1, 2, 3 or 4, the first that applies.
+fn open(bytes: &[u8], places: usize, marking: u32) -> Result<Deck<'_>, u32> {
     if bytes.len() > DECK_LIMIT {
         return Err(9);
     }
     let sections = sections(bytes).ok_or(9_u32)?;
+    let marking = Marking::from_number(marking).ok_or(24_u32)?;
     let state = State::from_bytes(sections.state).ok_or(1_u32)?;
     let words: Vec<u32> = items(sections.words)
         .map(|&word| u32::from_le_bytes(word))
         .collect();
-    if words.len() > 2048 || words.iter().any(|&word| word >> 22 != 0) {
+    if words.len() > WORDS_LIMIT || words.iter().any(|&word| word >> 22 != 0) {
         return Err(2);
     }
     if sections.rows.len() > 128 * 16 {
@@ -102,6 +109,7 @@ fn open(bytes: &[u8], places: usize) -> Result<Deck<'_>, u32> {
         return Err(4);
     }
     Ok(Deck {
+        marking,
         words,
         rows,
         state,
@@ -131,9 +139,9 @@ pub fn section(bytes: &[u8], size: usize) -> Option<(&[u8], &[u8])> {
     Some((bytes.get(2..end)?, &bytes[end..]))
 }
 
-/// The items of a section, which is as long as its count says.
+/// The whole items of a section.
 #[inline]
-fn items<const SIZE: usize>(section: &[u8]) -> impl Iterator<Item = &[u8; SIZE]> {
+pub(crate) fn items<const SIZE: usize>(section: &[u8]) -> impl Iterator<Item = &[u8; SIZE]> {
     let whole = |item| <&[u8; SIZE]>::try_from(item).expect("a whole item");
     section.chunks_exact(SIZE).map(whole)
 }

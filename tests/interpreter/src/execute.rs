@@ -2,6 +2,7 @@
 
 use crate::alu::{add, complement, logical, shift_left, shift_right, subtract};
 use crate::alu::{C, C8, N, NB, STATUS, V, Z, ZB};
+use crate::marking::Marking;
 use crate::sample::Sample;
 use crate::state::{high, State};
 
@@ -25,7 +26,7 @@ pub(crate) fn request(kind: u32, value: u16) -> u32 {
 
 /// Executes the word, except for its way to the next.
 #[inline]
-pub(crate) fn execute(word: u32, state: &mut State, sample: Sample) -> Done {
+pub(crate) fn execute(word: u32, state: &mut State, sample: Sample, marking: Marking) -> Done {
     let mut done = Done {
         request: 0,
         jump: None,
@@ -37,7 +38,7 @@ pub(crate) fn execute(word: u32, state: &mut State, sample: Sample) -> Done {
         0x20..=0x6F => literal(word, state),
         0x70..=0x77 => control(word, state),
         0x80..=0xAB | 0xAE..=0xD3 | 0xD8..=0xDF => register(word, state),
-        0xE0..=0xE7 => done.request = input(word, state, sample),
+        0xE0..=0xE7 => done.request = input(word, state, sample, marking),
         0xEC | 0xED => state.modification = Some(designated(word, state)),
         0xEE | 0xEF => state.tr = designated(word, state),
         0xF0..=0xF7 => done.request = access_and_increment(word, state),
@@ -187,7 +188,7 @@ fn crosswise(word: u32, ra: u32, rb: u32, state: &State) -> (u32, u8) {
 
 /// E0-E7: IB, IW, ISB, ISW.
 #[inline]
-fn input(word: u32, state: &mut State, sample: Sample) -> u32 {
+fn input(word: u32, state: &mut State, sample: Sample, marking: Marking) -> u32 {
     let (a, b, data) = (state.place(word), word >> 4 & 15, sample.data);
     let whole = word & 0x200 != 0;
     let (_, flags) = if whole {
@@ -207,7 +208,8 @@ fn input(word: u32, state: &mut State, sample: Sample) -> u32 {
     if word & 0x400 != 0 {
         return request(9, data);
     }
-    if b & 4 == 0 {
+    // TR is still that before the instruction.
+    if b & 4 == 0 || !marking.keeps_bus(state.tr) {
         state.sync = false;
         state.iack = false;
     }

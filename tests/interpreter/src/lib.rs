@@ -1,7 +1,8 @@
 //! An independent interpreter of the MCP-1600's microinstructions: the reference that the proved
 //! engine is compared with, and the baseline of its speed.
 //!
-//! [`run`] is the bench host's entry over a deck's bytes, [`attempt`] is one attempt of it.
+//! [`run`] is the bench host's entry over a deck's bytes, [`attempt`] is one attempt of it, and
+//! [`profile`] is the check of the service profile.
 //! [`decks`] makes inputs for comparison.
 
 #![forbid(unsafe_code)]
@@ -13,12 +14,16 @@ mod code;
 mod deck;
 pub mod decks;
 mod execute;
+mod marking;
+mod profile;
 mod row;
 mod sample;
 mod state;
 
 pub use attempt::{attempt, Outcome};
 pub use deck::{run, section, Report, DECK_LIMIT};
+pub use marking::{q1, Marking};
+pub use profile::{profile, Profile};
 pub use row::Row;
 pub use sample::Sample;
 pub use state::{place, State, STATE_BYTES};

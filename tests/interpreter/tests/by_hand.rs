@@ -4,7 +4,7 @@
 mod common;
 
 use common::*;
-use interpreter::{Outcome, Sample, State};
+use interpreter::{Marking, Outcome, Sample, State};
 
 /// N Z V C NB ZB C4 C8 as they stand in the flag byte.
 const N: u8 = 0x80;
@@ -245,7 +245,8 @@ mod attempts {
     #[test]
     fn compute_low_changes_nothing_and_fetches_nothing() {
         let mut state = busy_state();
-        let outcome = interpreter::attempt(&[], &[], &mut state, Sample::default());
+        let outcome =
+            interpreter::attempt(&[], &[], &mut state, Sample::default(), Marking::Cp1661b);
         assert_eq!(outcome, done(12, 0, 1));
         assert_eq!(state, busy_state());
     }
@@ -262,7 +263,7 @@ mod attempts {
             assert_eq!(state, before);
         }
         let mut state = busy_state();
-        let outcome = interpreter::attempt(&[0; 7], &[], &mut state, compute());
+        let outcome = interpreter::attempt(&[0; 7], &[], &mut state, compute(), Marking::Cp1661b);
         assert_eq!(outcome, Outcome::Refused(5));
         assert_eq!(state, busy_state());
     }

@@ -2,16 +2,17 @@
 
 mod common;
 
-use common::{ran, ran_with};
+use common::ran_as;
 use interpreter::decks::{case, single, Case, Kind};
-use interpreter::{attempt, place, section, Outcome, Report, Row, Sample, State, STATE_BYTES};
+use interpreter::STATE_BYTES;
+use interpreter::{attempt, place, q1, section, Marking, Outcome, Report, Row, Sample, State};
 
 fn report(case: &Case) -> Report {
-    ran_with(&case.deck, case.requests, case.state).report
+    ran_as(&case.deck, case.requests, case.state, case.marking).report
 }
 
-fn answers(kind: Kind, cases: u64) -> [u32; 10] {
-    let mut answers = [0; 10];
+fn answers(kind: Kind, cases: u64) -> [u32; 25] {
+    let mut answers = [0; 25];
     for seed in 0..cases {
         answers[report(&case(kind, seed)).answer as usize] += 1;
     }
@@ -24,19 +25,21 @@ fn the_same_seed_gives_the_same_case() {
         let (one, other) = (case(kind, 7), case(kind, 7));
         assert_eq!(one.deck, other.deck);
         assert_eq!((one.requests, one.state), (other.requests, other.state));
+        assert_eq!(one.marking, other.marking);
     }
 }
 
 #[test]
 fn damages_get_their_refusal() {
-    let damaging = Kind::Noise as usize + 1;
+    let damaging = Kind::Inputs as usize + 1;
     for kind in &Kind::ALL[damaging..Kind::ALL.len() - 1] {
         let answer = match *kind as usize {
             at if at <= Kind::StateOutputs as usize => 1,
             at if at <= Kind::WordsMany as usize => 2,
             at if at <= Kind::RowsMany as usize => 3,
             at if at <= Kind::RequestsShort as usize => 4,
-            _ => 9,
+            at if at <= Kind::StateBuffer as usize => 9,
+            _ => 24,
         };
         let got = answers(*kind, 40);
         assert_eq!(got[answer], 40, "{kind:?}: {got:?}");
@@ -46,7 +49,7 @@ fn damages_get_their_refusal() {
 #[test]
 fn several_damages_show_the_order() {
     let got = answers(Kind::Several, 400);
-    for answer in [1, 2, 3, 4, 9] {
+    for answer in [1, 2, 3, 4, 9, 24] {
         assert!(got[answer] >= 10, "{got:?}");
     }
     assert_eq!(got[0] + got[5..9].iter().sum::<u32>(), 0, "{got:?}");
@@ -73,6 +76,85 @@ fn long_decks_run_long() {
     let largest = report(&case(Kind::Largest, 1));
     assert!(largest.attempts >= 1000, "{largest:?}");
     assert!(case(Kind::Largest, 1).deck.len() <= 65_536);
+}
+
+#[test]
+fn cases_have_both_markings() {
+    for kind in Kind::ALL {
+        let markings = (0..40).map(|seed| Marking::from_number(case(kind, seed).marking));
+        let markings: Vec<Option<Marking>> = markings.collect();
+        let count = |own| markings.iter().filter(|it| **it == own).count();
+        let [known, unknown] = [40 - count(None), count(None)];
+        match kind {
+            Kind::Marking => assert_eq!(known, 0),
+            Kind::Several => assert!(known >= 10 && unknown >= 4, "{markings:?}"),
+            _ => assert_eq!(unknown, 0, "{kind:?}"),
+        }
+        let [base, other] = [Marking::Cp1661b, Marking::Cp1621b].map(|own| count(Some(own)));
+        assert!(known == 0 || base >= 4 && other >= 4, "{markings:?}");
+    }
+}
+
+/// RMW inputs that find SYNC high, by code, marking and Q1.
+type Rmw = [[[u32; 2]; 2]; 4];
+
+/// Counts an attempt that came to this.
+fn count_rmw(seen: &mut Rmw, word: u32, before: &State, marking: Marking, outcome: Outcome) {
+    let data_in = matches!(outcome, Outcome::Done { request, .. } if request >> 16 == 5);
+    if data_in && word & 0x40 != 0 && before.sync {
+        let marked = usize::from(marking == Marking::Cp1621b);
+        seen[word as usize >> 8 & 3][marked][usize::from(q1(before.tr))] += 1;
+    }
+}
+
+#[test]
+fn singles_have_rmw_inputs_about_q1() {
+    let mut seen = Rmw::default();
+    for (top, at) in (0xE0..=0xE3).flat_map(|top| (0..2000).map(move |at| (top, at))) {
+        let single = single(at << 8 | top);
+        let before = State::from_bytes(&single.state).unwrap();
+        let (outcome, _) = stepped(at << 8 | top);
+        let stored = single.words.get(usize::from(before.lc)).copied();
+        let word = stored.unwrap_or(0) | u32::from(before.modification.unwrap_or(0));
+        count_rmw(&mut seen, word, &before, single.marking, outcome);
+    }
+    let all = seen.iter().flatten().flatten();
+    assert!(all.min() >= Some(&20), "{seen:?}");
+}
+
+/// Counts the attempts of a deck that is accepted.
+fn count_deck(seen: &mut Rmw, case: &Case) {
+    let numbers = |bytes: &[u8]| -> Vec<u32> {
+        let numbers = bytes.chunks(4).map(|it| it.try_into().unwrap());
+        numbers.map(u32::from_le_bytes).collect()
+    };
+    let marking = Marking::from_number(case.marking).unwrap();
+    let (words, rest) = section(&case.deck, 4).unwrap();
+    let (rows, rest) = section(rest, 16).unwrap();
+    let (state, rest) = section(rest, STATE_BYTES).unwrap();
+    let (samples, _) = section(rest, 4).unwrap();
+    let rows = rows.chunks(16).map(|row| row.try_into().unwrap());
+    let rows: Vec<Row> = rows.map(|row| Row::from_bytes(row).unwrap()).collect();
+    let words = numbers(words);
+    let mut state = State::from_bytes(state.try_into().unwrap()).unwrap();
+    for sample in numbers(samples) {
+        let sample = Sample::from_bytes(&sample.to_le_bytes()).unwrap();
+        let before = state.clone();
+        let outcome = attempt(&words, &rows, &mut state, sample, marking);
+        let stored = words.get(usize::from(before.lc)).copied();
+        let word = stored.unwrap_or(0) | u32::from(before.modification.unwrap_or(0));
+        count_rmw(seen, word, &before, marking, outcome);
+    }
+}
+
+#[test]
+fn decks_have_rmw_inputs_about_q1() {
+    let mut seen = Rmw::default();
+    (0..100).for_each(|seed| count_deck(&mut seen, &case(Kind::Inputs, seed)));
+    let all = seen.iter().flatten().flatten();
+    assert!(all.min() >= Some(&30), "{seen:?}");
+    let done = answers(Kind::Inputs, 100)[0];
+    assert!(done >= 50, "{done}");
 }
 
 #[test]
@@ -104,14 +186,14 @@ fn stepped(seed: u64) -> (Outcome, bool) {
     assert_eq!(state.to_bytes(), single.state);
     let before = state.clone();
     let sample = Sample::from_bytes(&single.sample).unwrap();
-    let outcome = attempt(&single.words, &rows, &mut state, sample);
+    let outcome = attempt(&single.words, &rows, &mut state, sample, single.marking);
     let mut bare = before.clone();
-    attempt(&single.words, &[], &mut bare, sample);
+    attempt(&single.words, &[], &mut bare, sample, single.marking);
     if matches!(outcome, Outcome::Refused(_)) {
         assert_eq!(state, before);
     }
     // Through the host's entry it comes to the same.
-    let ran = ran(&single.deck(), 4);
+    let ran = ran_as(&single.deck(), 4, STATE_BYTES, single.marking.number());
     assert_eq!(ran.state, state.to_bytes());
     match outcome {
         Outcome::Done {

@@ -5,7 +5,7 @@ mod common;
 
 use common::*;
 use interpreter::decks::single;
-use interpreter::{attempt, Outcome, Row, Sample, State};
+use interpreter::{attempt, Marking, Outcome, Row, Sample, State};
 
 /// The outputs before an attempt; its word has others.
 const BEFORE: u8 = 0x6;
@@ -118,7 +118,7 @@ fn compute_low_and_reset_keep_them() {
 #[test]
 fn refused_attempts_keep_them() {
     let mut state = before();
-    let beyond = attempt(&[], &[], &mut state, compute());
+    let beyond = attempt(&[], &[], &mut state, compute(), Marking::Cp1661b);
     assert_eq!((beyond, state.outputs), (Outcome::Refused(5), BEFORE));
     for (word, number) in [(0x7800, 6), (0xAC22, 6), (0xE442, 8)] {
         keeps(word, &before(), compute(), Outcome::Refused(number));
@@ -187,7 +187,8 @@ fn single_attempts_load_or_keep_them() {
         let sample = Sample::from_bytes(&single.sample).unwrap();
         let before = State::from_bytes(&single.state).unwrap();
         let mut state = before.clone();
-        let outcome = attempt(&single.words, &rows.unwrap(), &mut state, sample);
+        let rows = rows.unwrap();
+        let outcome = attempt(&single.words, &rows, &mut state, sample, single.marking);
         let stored = single.words.get(usize::from(before.lc));
         let own = stored.map_or(before.outputs, |word| (word >> 18) as u8);
         let tells = u32::from(own != before.outputs);

@@ -80,7 +80,8 @@ fn lc_rr_and_tsr_after_every_executed_attempt() {
         let before = State::from_bytes(&single.state).unwrap();
         let sample = Sample::from_bytes(&single.sample).unwrap();
         let mut state = before.clone();
-        match attempt(&single.words, &rows.unwrap(), &mut state, sample) {
+        let rows = rows.unwrap();
+        match attempt(&single.words, &rows, &mut state, sample, single.marking) {
             Outcome::Done { request, .. } if request >> 16 < 10 => executed += 1,
             _ => continue,
         }

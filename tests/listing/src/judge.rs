@@ -72,26 +72,19 @@ impl<'a> Judge<'a> {
         }
     }
 
-    /// Judges what was taken. A call that kills the driver has no answer, and those behind it are made anew.
+    /// Judges what was taken.
     fn judge(&mut self) -> io::Result<()> {
         let (calls, expected) = (
             std::mem::take(&mut self.calls),
             std::mem::take(&mut self.expected),
         );
-        let mut done = 0;
-        while done < calls.len() {
-            let answers = self.driver.run(&calls[done..])?;
-            let lefts = answers.iter().map(|(left, _)| Some(left)).chain([None]);
-            for left in lefts.take(calls.len() - done) {
-                let same = left == Some(&expected[done]);
-                let wrong =
-                    (!same).then(|| difference("compiled", &calls[done], &expected[done], left));
-                self.tally.check(wrong);
-                done += 1;
-            }
-        }
         self.bytes = 0;
-        Ok(())
+        let tally = &mut self.tally;
+        self.driver.judge(&calls, |i, answer| {
+            let left = answer.map(|(left, _)| left);
+            let same = left == Some(&expected[i]);
+            tally.check((!same).then(|| difference("compiled", &calls[i], &expected[i], left)));
+        })
     }
 
     /// Judges the rest; a slip that nothing noticed and an answer that nothing got are failures too.
@@ -103,13 +96,8 @@ impl<'a> Judge<'a> {
             self.tally
                 .check((*count == 0).then(|| format!("no case gets {answer} of {function:?}")));
         }
-        let all = slips::all().len();
-        println!("{} of {all} slips noticed", all - self.slips.len());
-        self.tally.passed += all - self.slips.len();
-        for slip in &self.slips {
-            self.tally
-                .check(Some(format!("no case notices: {}", slip.name)));
-        }
+        let unnoticed = self.slips.iter().map(|slip| slip.name);
+        self.tally.slips(slips::all().len(), unnoticed);
         Ok(self.tally)
     }
 }

@@ -67,6 +67,7 @@ fn cells(it: &Requirement, vectors: &Path) -> Vec<(&'static str, bool)> {
         ),
         ("vectors", it.vectors == count && count >= 3),
         ("outputs", seen.outputs),
+        ("the same with both markings, but SYNC and IACK", seen.alike),
         (
             "facts where it completes",
             it.facts.is_some() != seen.microcycles.is_empty(),
@@ -81,6 +82,7 @@ fn cells(it: &Requirement, vectors: &Path) -> Vec<(&'static str, bool)> {
                 "registers",
                 (0..8).all(|set| seen.registers[set] == (set & facts.registers == facts.registers)),
             ),
+            ("CP1621B", facts.bus(&seen.kept)),
             (
                 "waits",
                 seen.waits == facts.waits && seen.completes == facts.waits.map(|waits| !waits),

@@ -2,7 +2,7 @@
 
 use compare::describe::WAIT;
 use interpreter::decks::Random;
-use interpreter::{attempt, Outcome, Sample, State, STATE_BYTES};
+use interpreter::{attempt, q1, Marking, Outcome, Sample, State, STATE_BYTES};
 use std::ops::RangeInclusive;
 
 /// Gathered over every low byte and many states.
@@ -22,6 +22,10 @@ pub struct Observed {
     pub completes: [bool; 4],
     /// Whether each completed attempt left bits 18-21 of its word in the outputs, and no other changed them.
     pub outputs: bool,
+    /// With CP1661B and CP1621B, each b, and Q1 false and true: whether every attempt left SYNC and IACK as they were.
+    pub kept: [[[bool; 2]; 16]; 2],
+    /// Whether nothing else depends on the marking.
+    pub alike: bool,
 }
 
 /// For each low byte and each pair of REPLY and BUSY.
@@ -37,6 +41,8 @@ impl Observed {
             waits: [false; 4],
             completes: [false; 4],
             outputs: true,
+            kept: [[[true; 2]; 16]; 2],
+            alike: true,
         };
         for top in codes {
             let random = &mut Random::new(u64::from(top));
@@ -62,7 +68,13 @@ impl Observed {
             ..Sample::default()
         };
         let mut outputs = before.outputs;
-        match attempt(&[word], &[], &mut state, sample) {
+        let outcome = attempt(&[word], &[], &mut state, sample, Marking::Cp1661b);
+        let mut other = before.clone();
+        let same = attempt(&[word], &[], &mut other, sample, Marking::Cp1621b) == outcome;
+        self.bus(word, &before, [&state, &other]);
+        (other.sync, other.iack) = (state.sync, state.iack);
+        self.alike &= same && other == state;
+        match outcome {
             Outcome::Refused(number) => self.refusals[word as usize & 255] = number,
             Outcome::Done { request, .. } if request >> 16 == WAIT => self.waits[lines] = true,
             Outcome::Done { microcycles, .. } => {
@@ -78,6 +90,15 @@ impl Observed {
         self.outputs &= state.outputs == outputs;
     }
 
+    /// The states after it are those of the two markings.
+    fn bus(&mut self, word: u32, before: &State, after: [&State; 2]) {
+        let b = word as usize >> 4 & 15;
+        for (kept, after) in self.kept.iter_mut().zip(after) {
+            let stays = (after.sync, after.iack) == (before.sync, before.iack);
+            kept[b][usize::from(q1(before.tr))] &= stays;
+        }
+    }
+
     /// By G before the attempt.
     fn registers(&mut self, word: u32, before: &State, after: &State) {
         let named = [word, word ^ 1, word >> 4].map(|designator| before.place(designator));
@@ -91,12 +112,16 @@ impl Observed {
     }
 }
 
-/// Any state in range with LC 0 and no modification.
+/// Any state in range with LC 0 and no modification. TR makes one of Q1's terms true, every other time with one of the bits
+/// turned that Q1 reads.
 fn state(random: &mut Random) -> State {
     let mut bytes = [0; STATE_BYTES];
     bytes[..26].fill_with(|| random.telling_byte());
     bytes[26] = random.byte() & 7;
     bytes[27] = random.byte();
+    let term = random.pick(&[0x2000, 0x0BC0]) | random.bits() as u16 & 0x803F;
+    let turned = u16::from(random.one_in(2)) << (6 + random.below(9));
+    bytes[32..34].copy_from_slice(&(term ^ turned).to_le_bytes());
     bytes[37] = random.byte() & 7;
     bytes[41] = random.byte() & 15;
     State::from_bytes(&bytes).expect("in range")

@@ -27,10 +27,12 @@ pub struct Facts {
     pub registers: usize,
     /// With REPLY and BUSY low, REPLY high, BUSY high, both high.
     pub waits: [bool; 4],
+    /// Whether CP1621B keeps SYNC and IACK with b 4-7 only if Q1 is false; else both markings do the same.
+    pub asks_for_rmw: bool,
 }
 
 const HEADS: [&str; 2] = [
-    "| Key | Codes | Format | Microcycles | Status | Condition | Registers | Waits | Refusals | Vectors |",
+    "| Key | Codes | Format | Microcycles | Status | Condition | Registers | Waits | CP1621B | Refusals | Vectors |",
     "| Key | Code | Refusals | Vectors |",
 ];
 
@@ -53,19 +55,19 @@ fn requirement(line: &str) -> Option<Requirement> {
     let cells: Vec<&str> = line.trim_matches('|').split('|').map(str::trim).collect();
     let (key, refusals, vectors) = match cells[..] {
         [key, _, refusals, vectors] => (key, refusals, vectors),
-        [key, _, _, _, _, _, _, _, refusals, vectors] => (key, refusals, vectors),
+        [key, _, _, _, _, _, _, _, _, refusals, vectors] => (key, refusals, vectors),
         _ => return None,
     };
     let (number, file) = vectors.strip_prefix('[')?.split_once("](../vectors/")?;
     let facts = match cells.get(3) {
-        Some(microcycles) if cells.len() == 10 && !microcycles.is_empty() => Some(facts(&cells)?),
+        Some(microcycles) if cells.len() == 11 && !microcycles.is_empty() => Some(facts(&cells)?),
         _ => None,
     };
     (file.strip_suffix(".txt)")? == key).then_some(())?;
     Some(Requirement {
         key: key.to_string(),
         codes: codes(cells[1])?,
-        format: (cells.len() == 10).then(|| cells[2].to_string()),
+        format: (cells.len() == 11).then(|| cells[2].to_string()),
         facts,
         refusals: refusals.to_string(),
         vectors: number.parse().ok()?,
@@ -95,6 +97,11 @@ fn facts(cells: &[&str]) -> Option<Facts> {
             "REPLY low" => [true, false, true, false],
             _ => return None,
         },
+        asks_for_rmw: match cells[8] {
+            "the same" => false,
+            "b 4-7: SYNC and IACK kept only if Q1 is false" => true,
+            _ => return None,
+        },
     })
 }
 
@@ -112,6 +119,18 @@ pub fn format(top: u8) -> &'static str {
         0x10..=0x1F => "conditional jump",
         0x20..=0x6F => "literal",
         _ => "register",
+    }
+}
+
+impl Facts {
+    /// Whether what the page tells of SYNC and IACK is so, by [`Observed::kept`](crate::observed::Observed).
+    pub fn bus(&self, kept: &[[[bool; 2]; 16]; 2]) -> bool {
+        if !self.asks_for_rmw {
+            return kept[0] == kept[1];
+        }
+        // Of b over 7, which is refused, nothing is seen.
+        let told = |marking, b| [b >= 4, b >= 4 && marking == 0];
+        (0..2).all(|marking| (0..8).all(|b| kept[marking][b] == told(marking, b)))
     }
 }
 

@@ -4,7 +4,7 @@ use crate::readable::runs;
 use crate::row::Row;
 use crate::setting::{Sample, Setting};
 use crate::vector::Vector;
-use interpreter::Report;
+use interpreter::{Marking, Report};
 
 /// Where the bytes of a state are parted for the eye.
 const PARTS: [usize; 13] = [12, 14, 1, 1, 2, 2, 2, 2, 1, 1, 1, 2, 1];
@@ -12,6 +12,8 @@ const PARTS: [usize; 13] = [12, 14, 1, 1, 2, 2, 2, 2, 1, 1, 1, 2, 1];
 /// What a vector's bytes say.
 #[derive(Default)]
 pub struct Bytes {
+    /// The marking, nothing where it is CP1661B.
+    pub marking: Vec<u8>,
     /// The deck.
     pub deck: Vec<u8>,
     /// Answer, attempts, microcycles.
@@ -26,7 +28,12 @@ pub struct Bytes {
 pub fn text(vector: &Vector) -> String {
     let left = &vector.left;
     let mut lines = vec!["bytes".to_string()];
-    let deck = deck(&vector.draft.setting);
+    let setting = &vector.draft.setting;
+    if setting.marking != Marking::Cp1661b {
+        let number = setting.marking.number();
+        lines.push(labelled("marking", &hexadecimal(&number.to_le_bytes())));
+    }
+    let deck = deck(setting);
     lines.extend(deck.iter().map(|line| labelled("deck", line)));
     lines.push(labelled("report", &report(left.report)));
     let requests: Vec<String> = vector
@@ -126,6 +133,7 @@ impl Bytes {
         };
         let mut words = content.split_whitespace();
         let to = match words.next()? {
+            "marking" => &mut self.marking,
             "deck" => &mut self.deck,
             "report" => &mut self.report,
             "requests" => &mut self.requests,

@@ -102,13 +102,11 @@ pub fn together(code: &Code, vectors: &[Vector], reach: &Reach) -> Vec<Option<St
     checks
 }
 
-/// A name or a deck that is there twice.
+/// A name, or a deck under the same marking, that is there twice.
 fn twice(vectors: &[Vector]) -> Option<String> {
     let names: Vec<&str> = vectors.iter().map(|own| own.draft.name.as_str()).collect();
-    let decks: Vec<Vec<u8>> = vectors
-        .iter()
-        .map(|own| own.draft.setting.call().deck)
-        .collect();
+    let calls = vectors.iter().map(|own| own.draft.setting.call());
+    let decks: Vec<(Vec<u8>, u32)> = calls.map(|call| (call.deck, call.marking)).collect();
     let again = (1..vectors.len())
         .find(|&at| names[..at].contains(&names[at]) || decks[..at].contains(&decks[at]))?;
     Some(format!("{} is there before", names[again]))

@@ -3,7 +3,7 @@
 use crate::draft::Claim;
 use crate::setting::Setting;
 use crate::vector::Vector;
-use interpreter::{place, State};
+use interpreter::{place, q1, Marking, State};
 
 /// A vector that a code must have: its name, and what the name says of it.
 pub struct Demand {
@@ -20,6 +20,12 @@ pub struct Demand {
     changed: &'static [u8],
     /// What must be so before.
     before: fn(&State) -> bool,
+    /// The marking that it must have.
+    marking: Option<Marking>,
+    /// Whether it must find SYNC and IACK high and leave both so, or leave both low.
+    keeps_bus: Option<bool>,
+    /// A bit of TR that must turn Q1.
+    turning: Option<u32>,
 }
 
 impl Demand {
@@ -33,6 +39,9 @@ impl Demand {
             shifted: (0, 0),
             changed: &[],
             before: |_| true,
+            marking: None,
+            keeps_bus: None,
+            turning: None,
         }
     }
 
@@ -70,6 +79,24 @@ impl Demand {
         Self { before, ..self }
     }
 
+    /// It must be run under this marking.
+    pub fn marking(self, marking: Marking) -> Self {
+        let marking = Some(marking);
+        Self { marking, ..self }
+    }
+
+    /// It must find SYNC and IACK high, and both must stay, or both fall.
+    pub fn keeps_bus(self, keeps: bool) -> Self {
+        let keeps_bus = Some(keeps);
+        Self { keeps_bus, ..self }
+    }
+
+    /// Q1 must be another with this bit of TR turned.
+    pub fn turning(self, bit: u32) -> Self {
+        let turning = Some(bit);
+        Self { turning, ..self }
+    }
+
     /// How the demand is not met, if it is not.
     pub fn unmet(&self, vectors: &[Vector]) -> Option<String> {
         let name = &self.name;
@@ -92,6 +119,19 @@ impl Demand {
                 .iter()
                 .all(|&designator| changes(own, designator))
             && (self.before)(&setting.state)
+            && self.meets_marking(own)
+    }
+
+    fn meets_marking(&self, own: &Vector) -> bool {
+        let Setting { state, marking, .. } = &own.draft.setting;
+        let bus = |keeps: bool| {
+            let after = own.after().map(|after| (after.sync, after.iack));
+            state.sync && state.iack && after == Some((keeps, keeps))
+        };
+        let turns = |bit: u32| q1(state.tr) != q1(state.tr ^ 1 << bit);
+        self.marking.map_or(true, |wanted| wanted == *marking)
+            && self.keeps_bus.map_or(true, bus)
+            && self.turning.map_or(true, turns)
     }
 }
 

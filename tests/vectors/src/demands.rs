@@ -6,6 +6,7 @@ use crate::demand::Demand;
 use crate::draft::Claim::{Executed, Failed, NotTaken, Refused, Reset, Still, Taken, Waits};
 use crate::setting::{LOAD_RR, OUTPUTS};
 use compare::lines::{BUSY, COMPUTE, REPLY, RESET};
+use interpreter::{q1, Marking};
 
 /// Every code's.
 const EVERY: [&str; 3] = ["ordinary", "edge", "other"];
@@ -81,8 +82,8 @@ pub fn all(code: &Code) -> Vec<Demand> {
         }
     }
     let rules = [
-        jumps, literals, conditions, registers, halves, shifts, pairs, options, waits, ignored,
-        nothing,
+        jumps, literals, conditions, registers, halves, shifts, pairs, options, markings, waits,
+        ignored, nothing,
     ];
     all.extend(rules.iter().flat_map(|rule| rule(top)));
     all
@@ -275,6 +276,33 @@ fn options(top: u8) -> Vec<Demand> {
     if top & 2 != 0 {
         let odd = Demand::named("odd-a-option-8").claim(Refused(8));
         all.push(odd.word(0xF1, 0x81));
+    }
+    all
+}
+
+/// IB and IW: read-modify-write under both markings with Q1 false and true; every bit that Q1 reads.
+fn markings(top: u8) -> Vec<Demand> {
+    use Marking::{Cp1621b, Cp1661b};
+    if !matches!(top, 0xE0..=0xE3) {
+        return Vec::new();
+    }
+    let rmw = |name: String, option: u32, marking: Marking| {
+        let named = Demand::named(name).claim(Executed).marking(marking);
+        named.word(0xF0, option << 4)
+    };
+    let mut all = Vec::new();
+    for at in 4..8 {
+        let names = ["", "-q1"].map(|end| format!("option-{at}{end}"));
+        let base = names.clone().map(|name| rmw(name, at, Cp1661b));
+        let other = names.map(|name| rmw(format!("cp1621b-{name}"), at, Cp1621b));
+        for ([low, high], goes) in [(base, false), (other, true)] {
+            all.push(low.before(|state| !q1(state.tr)).keeps_bus(true));
+            all.push(high.before(|state| q1(state.tr)).keeps_bus(!goes));
+        }
+    }
+    for bit in 6..15 {
+        let turned = rmw(format!("cp1621b-tr{bit}"), 4, Cp1621b).turning(bit);
+        all.push(turned.before(|state| !q1(state.tr)).keeps_bus(true));
     }
     all
 }

@@ -7,6 +7,7 @@ use crate::meaning;
 use crate::vector::Vector;
 use crate::{bytes, expected, readable};
 use compare::flags;
+use interpreter::Marking;
 
 /// Where the text comes from and what it is for.
 const ORIGIN: &str = "\
@@ -14,17 +15,30 @@ Written by `make vectors` from the engine's results, each checked by the indepen
 To replay a vector, hand over the bytes of its `deck` lines; what comes back must be the bytes of
 its `report`, `requests` and `state` lines. README.md tells more.";
 
+/// Where a vector has another marking than CP1661B.
+const MARKED: &str = "\
+A vector with a `marking` line is run under that marking, all others under 1661, CP1661B.";
+
 /// The whole text.
 pub fn text(code: &Code, reach: &Reach, vectors: &[Vector], lines: &Lines) -> String {
     let mut text = head(code, reach, vectors);
     for vector in vectors {
         text += "\n\n";
         text += &format!("vector {}\n# {}\n", vector.draft.name, vector.draft.shows);
+        text += marking(vector.draft.setting.marking);
         text += &readable::text(code, &vector.draft.setting, lines);
         text += &expected::text(vector);
         text += &bytes::text(vector);
     }
     text
+}
+
+/// For a reader; CP1661B goes without saying.
+fn marking(marking: Marking) -> &'static str {
+    match marking {
+        Marking::Cp1661b => "",
+        Marking::Cp1621b => "# Marking 1621, CP1621B.\n",
+    }
 }
 
 fn head(code: &Code, reach: &Reach, vectors: &[Vector]) -> String {
@@ -39,6 +53,10 @@ fn head(code: &Code, reach: &Reach, vectors: &[Vector]) -> String {
     )));
     lines.push(String::new());
     lines.extend(ORIGIN.lines().map(str::to_string));
+    let base = |own: &Vector| own.draft.setting.marking == Marking::Cp1661b;
+    if !vectors.iter().all(base) {
+        lines.push(MARKED.to_string());
+    }
     let lines = lines.iter().map(|line| format!("# {line}"));
     let lines = lines.map(|line| line.trim_end().to_string() + "\n");
     lines.collect()

@@ -137,9 +137,11 @@ fn register(code: &Code) -> String {
 
 fn input(code: &Code) -> &'static str {
     match code.top & 0xFE {
-        0xE0 => "takes the byte of DAL that b chooses to Ra, then lets the bus go unless b is 4-7",
+        0xE0 => {
+            "takes the byte of DAL that b chooses to Ra, then lets the bus go unless b is 4-7, with CP1621B also then if Q1 is true"
+        },
         0xE2 => {
-            "takes DAL to Ra's pair, and by b to TR and G, then lets the bus go unless b is 4-7"
+            "takes DAL to Ra's pair, and by b to TR and G, then lets the bus go unless b is 4-7, with CP1621B also then if Q1 is true"
         }
         0xE4 => "takes the byte of DAL that b chooses to Ra, whatever REPLY and BUSY are",
         _ => "takes DAL to Ra's pair, whatever REPLY and BUSY are",

@@ -77,6 +77,10 @@ fn replayed(title: String, bytes: Bytes) -> Option<Replayed> {
     };
     let samples = Sections::of(&bytes.deck)?.samples.len();
     let call = Call::patterned(bytes.deck, samples + 4, STATE_BYTES);
+    let call = match bytes.marking.is_empty() {
+        true => call,
+        false => call.marked(u32::from_le_bytes(bytes.marking.try_into().ok()?)),
+    };
     let mut requests = call.requests.clone();
     requests
         .get_mut(..bytes.requests.len())?

@@ -1,9 +1,9 @@
-//! What a vector starts from: the four sections of its deck.
+//! What a vector starts from: the four sections of its deck, and the marking.
 
 use crate::row::Row;
 use compare::call::{Call, Left};
 use compare::deck::{words_to, Sections};
-use interpreter::{State, STATE_BYTES};
+use interpreter::{Marking, State, STATE_BYTES};
 
 /// Bit 16 of a word.
 pub const LOAD_RR: u32 = 1 << 16;
@@ -47,7 +47,7 @@ impl Sample {
     }
 }
 
-/// The sections of a deck.
+/// The sections of a deck, and the marking of its run.
 #[derive(Clone)]
 pub struct Setting {
     /// Words.
@@ -58,10 +58,12 @@ pub struct Setting {
     pub state: State,
     /// Samples.
     pub samples: Vec<Sample>,
+    /// The marking.
+    pub marking: Marking,
 }
 
 impl Setting {
-    /// One word at the state's LC, and one sample. The word loads other outputs than there are, each
+    /// One word at the state's LC, and one sample, under CP1661B. The word loads other outputs than there are, each
     /// of the four, which tells a board that keeps them from one that loads them.
     pub fn single(word: u32, state: State, sample: Sample) -> Self {
         let word = word | loading(!state.outputs & 15);
@@ -70,6 +72,7 @@ impl Setting {
             rows: Vec::new(),
             state,
             samples: vec![sample],
+            marking: Marking::Cp1661b,
         }
     }
 
@@ -120,7 +123,8 @@ impl Setting {
             state: &self.state.to_bytes(),
             samples: &samples,
         };
-        Call::patterned(sections.deck(), samples.len() + 4, STATE_BYTES)
+        let call = Call::patterned(sections.deck(), samples.len() + 4, STATE_BYTES);
+        call.marked(self.marking.number())
     }
 
     /// What the interpreter leaves behind.

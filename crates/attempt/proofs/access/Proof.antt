@@ -1,5 +1,6 @@
 -- `attempt::access` meets its contract: F0-FF leave the latches.
-use Rattle.control.proofs.Parts.{latches-out}
+use mathlib.Core.Bool.{false}
+use Rattle.control.proofs.Parts.{bus-without-rmw, latches-out}
 use Rattle.attempt.specs.Effect.{registerEffect}
 use Rattle.attempt.proofs.Ranges.{of-access}
 use borrow.Author.Needs.{needs}
@@ -20,6 +21,7 @@ returns c =
     let k = a .core in
     rw (
       of-access (a .file .now) k (a .sample .dal) (a .code) (a .b) (a .a) (start .pre),
+      bus-without-rmw (k .bus) (a .code) _ false _ (start .pre),
       latches-out (k .latches) (a .code) (a .b) _ _ (a .sample) (start .pre),
       ← c .access .ensures,
       asked .request .ensures,

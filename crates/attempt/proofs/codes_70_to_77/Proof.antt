@@ -17,7 +17,7 @@ returns c =
     let k = a .core in
     rw (
       of-70-to-77 (a .file .now) k (a .sample .dal) (a .code) (a .b) (a .a) (start .pre),
-      bus-before-input (k .bus) (a .code) (a .b) _ (omega (arith, start .pre)),
+      bus-before-input (k .bus) (a .code) _ _ (omega (arith, start .pre)),
       latches-70-to-77 (k .latches) (a .code) (a .b) _ _ (a .sample) (omega (arith, start .pre)),
       request-before-input (a .code) (a .sample .dal) _ (omega (arith, start .pre)),
       ← c .codes-70-to-77 .ensures,

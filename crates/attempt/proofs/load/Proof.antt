@@ -18,7 +18,7 @@ returns c =
     let k = a .core in
     rw (
       of-load (a .file .now) k (a .sample .dal) (a .code) (a .b) (a .a) (start .pre .0) (start .pre .1),
-      bus-load (k .bus) (a .code) (a .b) _ (start .pre .0) (omega (arith, start .pre .1)),
+      bus-load (k .bus) (a .code) _ _ (start .pre .0) (omega (arith, start .pre .1)),
       latches-load (k .latches) (a .code) (a .b) _ _ (a .sample) (start .pre .0),
       request-load (a .code) (a .sample .dal) _ (start .pre .0) (omega (arith, start .pre .1)),
       c .latches-after-load .ensures,

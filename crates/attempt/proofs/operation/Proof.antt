@@ -16,7 +16,7 @@ returns c =
     let k = a .core in
     rw (
       of-operation (a .file .now) k (a .sample .dal) (a .code) (a .b) (a .a) (start .pre .0) (start .pre .1),
-      bus-before-input (k .bus) (a .code) (a .b) _ (omega (arith, start .pre .1)),
+      bus-before-input (k .bus) (a .code) _ _ (omega (arith, start .pre .1)),
       latches-operation (k .latches) (a .code) (a .b) _ _ (a .sample) (omega (arith, start .pre .0)) (omega (arith, start .pre .1)),
       request-before-input (a .code) (a .sample .dal) _ (omega (arith, start .pre .1)),
       ← c .conditioned .ensures,

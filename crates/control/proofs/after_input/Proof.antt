@@ -1,5 +1,4 @@
 -- `control::after_input` meets its contract: RMW apart.
-use borrow.Author.Tests.{eq-eqb, ne-eqb}
 use Rattle.control.specs.Bus.{afterInput}
 use borrow.Author.Needs.{needs}
 use Rattle.control.proofs.after_input.Statement.{statement}
@@ -7,11 +6,11 @@ use Rattle.control.proofs.after_input.Tie as tie
 
 returns : tie.Need-returns
 unfolding afterInput
-returns c = rw (eq-eqb _ _ (c .if1 .taken))
+returns c = rw (c .if1 .taken)
 
 returns-2 : tie.Need-returns-2
 unfolding afterInput
-returns-2 c = rw (ne-eqb _ _ (c .before .if1 .left), c .bus-with .ensures)
+returns-2 c = rw (c .before .if1 .left, c .bus-with .ensures)
 
 pub after-input-spec : {M : Type 1} → statement M
 after-input-spec = tie.close (tie.spec returns (search needs) returns-2)

@@ -9,7 +9,7 @@ returns : tie.Need-returns
 returns c =
     let layout = c .before .sections .ensures in
     let args = c .before .before .before .args in
-    (c .refusal .ensures ∙ rw layout (refusal-by-layout (args .deck .now) (args .requests-len) (args .state-len)), layout)
+    (c .refusal .ensures ∙ rw layout (refusal-by-layout (args .deck .now) (args .requests-len) (args .state-len) (args .marking)), layout)
 
 pub open-spec : {M : Type 1} → statement M
 open-spec = tie.close (tie.spec (search needs) (search needs) returns)

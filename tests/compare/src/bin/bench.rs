@@ -144,7 +144,7 @@ fn interpreted(call: &Call, times: usize) -> u64 {
     let (mut requests, mut state) = (call.requests.clone(), call.state.clone());
     let begun = Instant::now();
     for _ in 0..times {
-        interpreter::run(&call.deck, &mut requests, &mut state);
+        interpreter::run(&call.deck, &mut requests, &mut state, call.marking);
     }
     begun.elapsed().as_nanos() as u64
 }

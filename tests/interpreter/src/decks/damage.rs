@@ -1,4 +1,4 @@
-//! Damages, one for each rule of refusals 9 and 1-4.
+//! Damages, one for each rule of refusals 9, 24 and 1-4.
 
 use super::draft::Draft;
 use super::{parts, Case, Kind, Random};
@@ -88,7 +88,7 @@ fn row(kind: Kind, draft: &mut Draft, random: &mut Random) {
     row[value] |= bit;
 }
 
-/// Damages a count or a length. Kinds that damage none leave them.
+/// Damages a count, a length or the marking. Kinds that damage none leave them.
 pub(super) fn lengths(kind: Kind, draft: &Draft, case: &mut Case, random: &mut Random) {
     let length = case.deck.len() as u32;
     match kind {
@@ -124,7 +124,17 @@ pub(super) fn lengths(kind: Kind, draft: &Draft, case: &mut Case, random: &mut R
             let wrong = [0, 1, OLD_BYTES, STATE_BYTES + 1, 2 * STATE_BYTES, 4096];
             case.state = random.pick(&wrong);
         }
+        Kind::Marking => case.marking = unknown(random),
         _ => {}
+    }
+}
+
+/// A marking that no chip has, mostly one bit away from one that a chip has; those are two bits apart.
+fn unknown(random: &mut Random) -> u32 {
+    if random.one_in(4) {
+        random.pick(&[0, 1, 24, 1620, 1622, 1660, 1662, 0x1621, 0x1661, u32::MAX])
+    } else {
+        random.pick(&[1661, 1621]) ^ 1 << random.below(32)
     }
 }
 

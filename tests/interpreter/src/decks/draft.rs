@@ -131,3 +131,21 @@ pub(super) fn noise(random: &mut Random) -> Draft {
     }
     draft
 }
+
+/// Reads that take the bus, and inputs of all options; TR and what loads it are where Q1 turns.
+pub(super) fn inputs(random: &mut Random) -> Draft {
+    let mut draft = Draft::lasting(random, 64, 4, 300);
+    for word in draft.words.iter_mut().filter(|word| **word & 0xF000 != 0) {
+        let code = match random.below(4) {
+            0 => random.pick(&[0xF800, 0xFA00]),
+            1 => continue,
+            _ => 0xE000 + (random.below(4) << 8),
+        };
+        *word = parts::upper_bits(random) | parts::legal(code | random.below(256));
+    }
+    draft.state[32..34].copy_from_slice(&parts::telling_tr(random).to_le_bytes());
+    for sample in &mut draft.samples {
+        sample[..2].copy_from_slice(&parts::telling_tr(random).to_le_bytes());
+    }
+    draft
+}

@@ -12,7 +12,7 @@ mod single;
 pub use random::Random;
 pub use single::{single, Single};
 
-use crate::STATE_BYTES;
+use crate::{Marking, STATE_BYTES};
 use draft::Draft;
 
 /// One input of [`run`](crate::run).
@@ -24,6 +24,8 @@ pub struct Case {
     pub requests: usize,
     /// The length of the state buffer in bytes.
     pub state: usize,
+    /// The number of the marking.
+    pub marking: u32,
 }
 
 /// What a deck is made to show.
@@ -45,6 +47,8 @@ pub enum Kind {
     Astray,
     /// In range, every word 22 random bits: refusals 5, 6 and 8 early.
     Noise,
+    /// Valid: reads and inputs, and TR where Q1 turns.
+    Inputs,
 
     /// State: G above 7.
     StateG,
@@ -121,13 +125,16 @@ pub enum Kind {
     /// A state buffer of another length than a state.
     StateBuffer,
 
+    /// An unknown marking.
+    Marking,
+
     /// Several damages at once, which shows the order of refusals.
     Several,
 }
 
 impl Kind {
     /// Every kind.
-    pub const ALL: [Kind; 44] = [
+    pub const ALL: [Kind; 46] = [
         Kind::Short,
         Kind::Long,
         Kind::Largest,
@@ -136,6 +143,7 @@ impl Kind {
         Kind::Illegal,
         Kind::Astray,
         Kind::Noise,
+        Kind::Inputs,
         Kind::StateG,
         Kind::StateLc,
         Kind::StateRr,
@@ -171,6 +179,7 @@ impl Kind {
         Kind::StateOld,
         Kind::SampleCount,
         Kind::StateBuffer,
+        Kind::Marking,
         Kind::Several,
     ];
 }
@@ -187,11 +196,17 @@ pub fn case(kind: Kind, seed: u64) -> Case {
         deck: draft.bytes(),
         requests: 4 * draft.samples.len(),
         state: STATE_BYTES,
+        marking: marking(random).number(),
     };
     for &damage in damages {
         damage::lengths(damage, &draft, &mut case, random);
     }
     case
+}
+
+/// Either marking.
+fn marking(random: &mut Random) -> Marking {
+    random.pick(&[Marking::Cp1661b, Marking::Cp1621b])
 }
 
 /// A deck in range, as the kind needs it.
@@ -208,6 +223,7 @@ fn draft(kind: Kind, random: &mut Random) -> Draft {
         Kind::Illegal => draft::illegal(random),
         Kind::Astray => draft::astray(random),
         Kind::Noise => draft::noise(random),
+        Kind::Inputs => draft::inputs(random),
         _ => draft::short(random),
     }
 }
@@ -217,18 +233,19 @@ fn damages(kind: Kind, random: &mut Random) -> Vec<Kind> {
     if kind != Kind::Several {
         return vec![kind];
     }
-    // The first kind of each refusal: 1, 2, 3, 4, 9, and the end.
+    // The first kind of each refusal: 1, 2, 3, 4, 9, 24, and the end.
     let firsts = [
         Kind::StateG,
         Kind::WordRange,
         Kind::RowLcMask,
         Kind::SampleLines,
         Kind::DeckLong,
+        Kind::Marking,
         Kind::Several,
     ];
     let damage = |_| {
-        // 9 hides all others, so it is drawn seldom.
-        let refusal = random.pick(&[0, 1, 1, 2, 2, 3, 3, 3, 4]);
+        // 9 and 24 hide all others, so they are drawn seldom.
+        let refusal = random.pick(&[0, 1, 1, 2, 2, 3, 3, 3, 3, 4, 5]);
         let [first, end] = [firsts[refusal] as usize, firsts[refusal + 1] as usize];
         random.pick(&Kind::ALL[first..end])
     };

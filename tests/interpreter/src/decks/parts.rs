@@ -142,6 +142,20 @@ pub(super) fn state(random: &mut Random, words: usize) -> [u8; STATE_BYTES] {
     state
 }
 
+/// A TR where Q1 turns: one of its terms is true, or every other time one bit short of it. The bits
+/// that the term does not name are any.
+pub(super) fn telling_tr(random: &mut Random) -> u16 {
+    // The second term tells only where the first is false.
+    let (named, value) = random.pick(&[(0x6000, 0x2000), (0x7FC0, 0x0BC0)]);
+    let tr = value | random.bits() as u16 & !named;
+    let bits = (0..16).map(|at| 1 << at);
+    let bits: Vec<u16> = bits.filter(|bit| named & bit != 0).collect();
+    match random.one_in(2) {
+        true => tr,
+        false => tr ^ random.pick(&bits),
+    }
+}
+
 /// Marks a waiting modification, sometimes of no bits.
 pub(super) fn modify(random: &mut Random, state: &mut [u8; STATE_BYTES]) {
     let bits = match random.below(4) {

@@ -1,8 +1,8 @@
 //! One attempt at a time.
 
 use super::draft::Draft;
-use super::{parts, Random};
-use crate::STATE_BYTES;
+use super::{marking, parts, Random};
+use crate::{Marking, STATE_BYTES};
 
 /// One attempt in range, each part as a deck holds it.
 #[derive(Clone, Debug)]
@@ -15,6 +15,8 @@ pub struct Single {
     pub state: [u8; STATE_BYTES],
     /// The sample.
     pub sample: [u8; 4],
+    /// The marking.
+    pub marking: Marking,
 }
 
 impl Single {
@@ -44,6 +46,9 @@ pub fn single(seed: u64) -> Single {
         parts::modify(random, &mut state);
     }
     let drawn = (seed as u32 & 0xFF) << 8 | random.below(256);
+    if matches!(drawn >> 8, 0xE0..=0xE3) {
+        state[32..34].copy_from_slice(&parts::telling_tr(random).to_le_bytes());
+    }
     let drawn = if random.one_in(8) {
         drawn
     } else {
@@ -67,6 +72,7 @@ pub fn single(seed: u64) -> Single {
         rows,
         state,
         sample,
+        marking: marking(random),
     }
 }
 

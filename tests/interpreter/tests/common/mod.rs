@@ -1,7 +1,7 @@
 //! Short ways to set up one attempt.
 #![allow(dead_code)]
 
-use interpreter::{attempt, run, Outcome, Report, Row, Sample, State, STATE_BYTES};
+use interpreter::{attempt, run, Marking, Outcome, Report, Row, Sample, State, STATE_BYTES};
 
 /// A state's bytes, all zero.
 pub const BLANK: [u8; STATE_BYTES] = [0; STATE_BYTES];
@@ -58,7 +58,7 @@ pub fn r(designator: usize) -> usize {
 pub fn with(word: u32, rows: &[Row], state: &mut State, sample: Sample) -> Outcome {
     let mut words = vec![0; usize::from(state.lc)];
     words.push(word);
-    attempt(&words, rows, state, sample)
+    attempt(&words, rows, state, sample, Marking::Cp1661b)
 }
 
 /// The same without rows and with COMPUTE alone.
@@ -189,9 +189,14 @@ pub fn ran(deck: &[u8], requests: usize) -> Ran {
 
 /// Runs a deck with buffers of these lengths.
 pub fn ran_with(deck: &[u8], requests: usize, state: usize) -> Ran {
+    ran_as(deck, requests, state, 1661)
+}
+
+/// Runs a deck with buffers of these lengths, under this marking.
+pub fn ran_as(deck: &[u8], requests: usize, state: usize, marking: u32) -> Ran {
     let mut requests = vec![0xA5; requests];
     let mut state = vec![0xA5; state];
-    let report = run(deck, &mut requests, &mut state);
+    let report = run(deck, &mut requests, &mut state, marking);
     Ran {
         report,
         requests,

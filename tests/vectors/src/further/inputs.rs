@@ -1,6 +1,7 @@
 //! IB, IW, ISB, ISW: options, waiting, and options that are not listed.
 
 use super::address::waits;
+use super::markings;
 use crate::code::{Code, Format};
 use crate::draft::{low, Claim, Draft};
 use crate::operands::Operands;
@@ -19,11 +20,13 @@ pub fn drafts(code: &Code, ordinary: &Operands) -> Vec<Draft> {
         }
         (false, Format::InputWord) => {
             drafts.extend((0..8).map(|option| word(code, option)));
+            drafts.extend(markings::drafts(code, ordinary));
             drafts.extend(unlisted(code, ordinary, 8));
             drafts.push(odd_and_unlisted(code, ordinary));
         }
         (false, _) => {
             drafts.extend((0..8).flat_map(|option| bytes(code, ordinary, option)));
+            drafts.extend(markings::drafts(code, ordinary));
             drafts.extend(unlisted(code, ordinary, 8));
         }
     }
@@ -32,7 +35,7 @@ pub fn drafts(code: &Code, ordinary: &Operands) -> Vec<Draft> {
 }
 
 /// The setting of an option: the bus is held and the sample's ICS high.
-fn option(code: &Code, operands: &Operands, option: u8) -> Setting {
+pub fn option(code: &Code, operands: &Operands, option: u8) -> Setting {
     let operands = Operands {
         b: option,
         ..operands.clone()

@@ -8,6 +8,7 @@ mod halves;
 mod inputs;
 mod interrupts;
 mod jumps;
+mod markings;
 mod pairs;
 mod refused;
 mod registers;

@@ -22,12 +22,13 @@ impl Case {
         match self.kind {
             Some(kind) => {
                 let case = decks::case(kind, self.seed);
-                Call::patterned(case.deck, case.requests, case.state)
+                Call::patterned(case.deck, case.requests, case.state).marked(case.marking)
             }
             // Up to a place more than is needed.
             None => {
-                let room = 4 + self.seed as usize % 5;
-                Call::patterned(decks::single(self.seed).deck(), room, STATE_BYTES)
+                let (single, room) = (decks::single(self.seed), 4 + self.seed as usize % 5);
+                let call = Call::patterned(single.deck(), room, STATE_BYTES);
+                call.marked(single.marking.number())
             }
         }
     }

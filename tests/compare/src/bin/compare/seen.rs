@@ -2,13 +2,13 @@
 
 use compare::call::{Call, Left};
 use compare::deck::Sections;
-use compare::describe::{KINDS, WAIT};
+use compare::describe::{DATA_IN, KINDS, WAIT};
 use compare::difference::word;
 use compare::listing::{self, Waits};
-use interpreter::place;
+use interpreter::{place, q1, Marking, State};
 
 /// The numbers on the refusal slip; 7 no longer occurs.
-const ANSWERS: [usize; 9] = [0, 1, 2, 3, 4, 5, 6, 8, 9];
+const ANSWERS: [usize; 10] = [0, 1, 2, 3, 4, 5, 6, 8, 9, 24];
 
 /// Listed instructions, CAD among them.
 const LISTED: usize = 150;
@@ -19,7 +19,7 @@ pub struct Seen {
     pub passed: usize,
     /// Attempts of these cases.
     attempts: u64,
-    answers: [u64; 10],
+    answers: [u64; 25],
     kinds: [u64; 13],
     /// Single attempts by the top byte of the word taken: all, completed ones, waits, completed ones
     /// with crosswise pairs.
@@ -27,6 +27,8 @@ pub struct Seen {
     completed: [u64; 256],
     waited: [u64; 256],
     crosswise: [u64; 256],
+    /// Single RMW inputs that are completed and find SYNC high, by marking, CP1661B first, and Q1.
+    rmw: [[u64; 2]; 2],
 }
 
 impl Seen {
@@ -35,12 +37,13 @@ impl Seen {
         Self {
             passed: 0,
             attempts: 0,
-            answers: [0; 10],
+            answers: [0; 25],
             kinds: [0; 13],
             seen: [0; 256],
             completed: [0; 256],
             waited: [0; 256],
             crosswise: [0; 256],
+            rmw: [[0; 2]; 2],
         }
     }
 
@@ -52,6 +55,9 @@ impl Seen {
         let places = 0..left.report.attempts as usize;
         for request in places.filter_map(|place| left.request(place)) {
             self.kinds[request as usize >> 16] += 1;
+        }
+        if let Some((marked, q1)) = rmw(call, left) {
+            self.rmw[usize::from(marked)][usize::from(q1)] += 1;
         }
         if let Some((top, crosswise)) = single(call, left) {
             self.seen[top] += 1;
@@ -90,6 +96,8 @@ impl Seen {
         }
         let pairs: u64 = self.crosswise.iter().sum();
         println!("crosswise pairs in single attempts: {pairs}");
+        let [[low, high], [marked_low, marked_high]] = self.rmw;
+        println!("RMW with SYNC in single attempts: CP1661B {low} with Q1 false, {high} true; CP1621B {marked_low}, {marked_high}");
     }
 
     /// What the cases were to show and did not.
@@ -104,11 +112,17 @@ impl Seen {
         let pairs = (0..=255).filter(|&top| listing::pairs(top));
         let pairs = pairs.filter(|&top| self.crosswise[usize::from(top)] == 0);
         let pairs = pairs.map(|top| format!("{top:02X} never had crosswise pairs"));
+        let rmw = self.rmw.iter().flatten().any(|&count| count == 0);
+        let rmw = rmw.then(|| "RMW not under both markings with both Q1".to_string());
         let listed = listing::keys();
         let count = (listed.len() != LISTED).then(|| format!("{} are listed", listed.len()));
         let listed = listed.iter().filter_map(|key| self.lacking(key));
         let instructions = waits.chain(pairs).chain(listed).chain(count);
-        answers.chain(kinds).chain(instructions).collect()
+        answers
+            .chain(kinds)
+            .chain(instructions)
+            .chain(rmw)
+            .collect()
     }
 
     /// What the single attempts lack of an instruction.
@@ -141,4 +155,14 @@ fn single(call: &Call, left: &Left) -> Option<(usize, bool)> {
     let (top, g) = ((word >> 8) as u8, sections.state[26]);
     let across = place(word as u8, g) == place((word >> 4) as u8 ^ 1, g);
     takes.then(|| (usize::from(top), across && listing::pairs(top)))
+}
+
+/// Of a single RMW input that is completed and finds SYNC high: whether the marking is CP1621B, and Q1.
+fn rmw(call: &Call, left: &Left) -> Option<(bool, bool)> {
+    let sections = Sections::of(&call.deck).filter(|own| own.samples.len() == 4)?;
+    let state = State::from_bytes(sections.state.try_into().ok()?)?;
+    let rmw = word(&sections, sections.state)? & 0x40 != 0;
+    let data_in = left.report.attempts == 1 && left.request(0)? >> 16 == DATA_IN;
+    let marked = call.marking == Marking::Cp1621b.number();
+    (rmw && data_in && state.sync).then(|| (marked, q1(state.tr)))
 }

@@ -1,0 +1,3 @@
+pub mod Base
+pub mod Others
+pub mod Cases

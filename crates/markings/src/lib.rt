@@ -1,0 +1,1 @@
+// Laws of the chip's marking: no code.

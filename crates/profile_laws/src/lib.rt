@@ -1,0 +1,1 @@
+// Laws of the service profile: no code.
