@@ -16,7 +16,7 @@ use Rattle.code.specs.Word.{apartOf}
 use Rattle.code.specs.declared.Apart.{Apart}
 use Rattle.code.specs.declared.Fields.{Fields}
 use Rattle.code.specs.declared.Operands.{Operands}
-use Rattle.control.specs.Bus.{rmwOf, afterInput, busAfter}
+use Rattle.control.specs.Bus.{afterInput, busAfter}
 use Rattle.control.specs.Next.{inputsOf, addressAfter}
 use Rattle.control.specs.declared.Way.{Way}
 use Rattle.engine.specs.Run.{World, steppedOf, stoppedOf, runFrom}

@@ -1,5 +1,5 @@
 -- The rule that is told of a word is the first of 02's that fails. Assumes nothing.
-use Prim.Native.Nat.{ℕ, _/_, _%_, _<_}
+use Prim.Native.Nat.{ℕ, _<_}
 use mathlib.Core.Path.{_≡_, refl, sym, _∙_}
 use mathlib.Core.Bool.{Bool, true, false, not, _&&_, _||_, Bool·beq, false≢true}
 use mathlib.Core.List.{List, [], _∷_}
@@ -12,7 +12,7 @@ use Rattle.attempt_laws.specs.Fate.{within, noCode, topIn}
 use Rattle.choose.proofs.Table.{below}
 use Rattle.choose.proofs.Tests.{equal-tests}
 use Rattle.choose.specs.Ranged.{pick, ranged}
-use Rattle.code.specs.CodeRows.{classOf, listed}
+use Rattle.code.specs.CodeRows.{classOf}
 use Rattle.deck.specs.Slip.{FirstFailing}
 use Rattle.profile.specs.Profile.{noRun, ruleOf}
 use Rattle.profile_laws.specs.Rules.{NoMi, RrByJumps, FirstWord, Runs, rules, Kept}

@@ -5,13 +5,13 @@ use mathlib.Core.Bool.{Bool, true, false}
 use mathlib.Core.List.{List, [], _∷_}
 use mathlib.Core.Logic.{_⊎_, inl, inr, ⊎-elim}
 use native.Mathlib.Omega.{arith}
-use borrow.Author.Tests.{eq-eqb, ne-eqb, eqb-true, eqb-false, ltb-true, ltb-false}
+use borrow.Author.Tests.{ne-eqb, eqb-true, eqb-false, ltb-true, ltb-false}
 use lib.Dec.{eqb, ltb}
 use lib.ListN.{length}
 use Rattle.choose.specs.Below.{firsts}
 use Rattle.deck.specs.Slip.{FirstFailing}
 use Rattle.deck.proofs.Slip.{one-number}
-use Rattle.listing.specs.Listed.{listedOf, listedInto}
+use Rattle.listing.specs.Listed.{listedOf}
 use Rattle.listing.specs.declared.Report.{Report as Listed}
 use Rattle.listing_laws.proofs.Exact.{lists-only}
 use Rattle.listing_laws.proofs.Told.{lists}

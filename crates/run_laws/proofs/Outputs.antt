@@ -17,7 +17,6 @@ use Rattle.rows.specs.declared.Row.{Row}
 use Rattle.state.specs.File.{Leaves}
 use Rattle.state.specs.declared.Core.{Core}
 use Rattle.state.specs.declared.Sample.{Sample}
-use Rattle.state.specs.Marking.{markingOf}
 use Rattle.state_bytes.specs.Bytes.{coreOf, tailOf}
 use Rattle.state_bytes.proofs.Laws.{tail-at}
 use Rattle.run_laws.specs.Attempts.{stateAfter, NoneCompletes, LastCompleted}

@@ -1,9 +1,9 @@
 -- `profile::profile` meets its contract: the lister's 2, or what is told of the words, of which there are then no more than 2,048.
 use mathlib.Core.Path.{_≡_, sym, ap, _∙_}
-use Prim.Native.Nat.{ℕ, _%_, _≤_}
+use Prim.Native.Nat.{_%_, _≤_}
 use native.Mathlib.Omega.{arith}
 use borrow.Author.Needs.{needs}
-use borrow.Author.Tests.{eq-eqb, ne-eqb}
+use borrow.Author.Tests.{ne-eqb}
 use lib.ListN.{length}
 use Rattle.listing.specs.Listed.{listedOf}
 use Rattle.listing.specs.declared.Report.{Report}
