@@ -149,7 +149,7 @@ fn load(file: &[u8; 26], core: Core, code: u8, b: u8, a: u8, sample: Sample) -> 
     }
 }
 
-// F0-FF: reads and writes leave the latches.
+// F0-FF: reads and writes leave the latches, and only an input is RMW.
 fn access(file: &mut [u8; 26], core: Core, code: u8, b: u8, a: u8, sample: Sample) -> Effect
     requires { ⌜ 0xF0 ≤ code ⌝ }
     ensures { λ r. ⌜ leaves (now (file .exit)) r ≡ registerEffect (now (file .entry)) core code b a sample ⌝ }
