@@ -1,7 +1,8 @@
 -- A number that no fate gives is given by no attempt; so no attempt is refused with another number than 2, 5, 6 and 8. Assumes nothing.
-use Prim.Native.Nat.{ℕ, _/_}
+use Prim.Native.Nat.{ℕ, _/_, _≤_}
 use mathlib.Core.Path.{_≡_, sym, ap, _∙_}
 use mathlib.Core.List.{List}
+use native.Mathlib.Omega.{arith}
 use lib.Dec.{ltb}
 use lib.ListN.{length}
 use Rattle.attempt.specs.Attempt.{executedOf, outputsOf, attemptOf}
@@ -41,6 +42,9 @@ module _ (n : ℕ) (some : n ≡ 0 → ⊥) where
       → attemptOf ws rs xs k s .back .refusal ≡ n → ⊥
   attempt-not ws rs xs k s h =
       ends-not (takenWord ws k) xs k s (outputsOf ws rs k s) (attemptOf ws rs xs k s) (fateOf ws k s) h (attempt-fate ws rs xs k s)
+
+pub from-seven : (n : ℕ) → 7 ≤ n → (n ≡ 8 → ⊥) → OtherNumber n
+from-seven n least eight = record { none = λ e. omega arith; two = λ e. omega arith; five = λ e. omega arith; six = λ e. omega arith; eight = eight }
 
 module _ (n : ℕ) (other : OtherNumber n) where
   word-not : (word : ℕ) (s : Sample) → Not n (wordFate word s)

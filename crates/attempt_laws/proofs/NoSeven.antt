@@ -8,10 +8,10 @@ use Rattle.rows.specs.declared.Row.{Row}
 use Rattle.state.specs.declared.Core.{Core}
 use Rattle.state.specs.declared.Sample.{Sample}
 use Rattle.attempt_laws.specs.Fate.{OtherNumber}
-use Rattle.attempt_laws.proofs.Never.{attempt-never}
+use Rattle.attempt_laws.proofs.Never.{from-seven, attempt-never}
 
 pub seven : OtherNumber 7
-seven = record { none = λ e. omega arith; two = λ e. omega arith; five = λ e. omega arith; six = λ e. omega arith; eight = λ e. omega arith }
+seven = from-seven 7 (omega arith) (λ e. omega arith)
 
 pub attempt-not-7 : (ws : List ℕ) (rs : List Row) (xs : List ℕ) (k : Core) (s : Sample) → attemptOf ws rs xs k s .back .refusal ≡ 7 → ⊥
 attempt-not-7 = attempt-never 7 seven

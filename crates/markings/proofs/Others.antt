@@ -99,24 +99,16 @@ module _ (k : Core) (m n : Marking) (x y x′ y′ : Bool) (xs : List ℕ) (s : 
         refusal = refl;
       }
 
-  as-it-was : (r c e : ℕ) → SameButLines (leaves xs (outcomeOf one r c e)) (leaves xs (outcomeOf other r c e))
-  as-it-was r c e = record {
-    file = refl;
-    set = record { flags = refl; address = refl; m = refl; latches = refl; outputs = refl };
-    request = refl;
-    cycles = refl;
-    refusal = refl;
-  }
+  -- an attempt that executes nothing leaves the set, or resets it
+  idle : (j i : Core) → SameSet j i → (r c e : ℕ) → SameButLines (leaves xs (outcomeOf j r c e)) (leaves xs (outcomeOf i r c e))
+  idle j i q r c e = record { file = refl; set = q; request = refl; cycles = refl; refusal = refl }
 
-  was-reset : (r c e : ℕ) → SameButLines (leaves xs (outcomeOf (resetOf one) r c e)) (leaves xs (outcomeOf (resetOf other) r c e))
+  as-it-was : (r c e : ℕ) → SameButLines (leaves xs (outcomeOf one r c e)) (leaves xs (outcomeOf other r c e))
+  as-it-was = idle one other (record { flags = refl; address = refl; m = refl; latches = refl; outputs = refl })
+
+  reset-same : SameSet (resetOf one) (resetOf other)
   unfolding resetOf
-  was-reset r c e = record {
-    file = refl;
-    set = record { flags = refl; address = refl; m = refl; latches = refl; outputs = refl };
-    request = refl;
-    cycles = refl;
-    refusal = refl;
-  }
+  reset-same = record { flags = refl; address = refl; m = refl; latches = refl; outputs = refl }
 
   taken-same : (a : Apart) (o : Outputs) → SameButLines (takenOf a o xs one s) (takenOf a o xs other s)
   unfolding checkedOf
@@ -130,7 +122,7 @@ module _ (k : Core) (m n : Marking) (x y x′ y′ : Bool) (xs : List ℕ) (s : 
   attempt-same : (ws : List ℕ) (rs : List Row) → SameButLines (attemptOf ws rs xs one s) (attemptOf ws rs xs other s)
   unfolding attemptOf attemptedOf fetchedOf outputsOf inputsOf
   attempt-same ws rs =
-      chosen (s .reset) _ _ _ _ (was-reset _ _ _)
+      chosen (s .reset) _ _ _ _ (idle (resetOf one) (resetOf other) reset-same _ _ _)
       (chosen (s .compute) _ _ _ _
       (chosen (ltb (k .address .lc) (length ws / 4)) _ _ _ _ (taken-same (apartOf (modifiedOf (wordAt ws (k .address .lc)) (k .latches))) _) (as-it-was _ _ _))
       (as-it-was _ _ _))

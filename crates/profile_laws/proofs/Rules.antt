@@ -7,6 +7,7 @@ use mathlib.Core.Logic.{_↔_, _⊎_, inl, inr, ⊎-elim}
 use native.Mathlib.Omega.{arith}
 use borrow.Author.Tests.{eq-eqb, eqb-true}
 use lib.Dec.{eqb}
+use lib.ListN.{drop}
 use Rattle.attempt_laws.specs.After.{hasBit}
 use Rattle.attempt_laws.specs.Fate.{within, noCode, topIn}
 use Rattle.choose.proofs.Table.{below}
@@ -31,6 +32,15 @@ first false P d n rest ts f = inr (d .0 refl, f)
 pub kept-none : (ts : List (ℕ × Type 0)) (n : ℕ) → Kept ts → FirstFailing ts n → n ≡ 0
 kept-none [] n k f = f
 kept-none (t ∷ ts) n k f = ⊎-elim (λ a. absurd (a .0 (k .0))) (λ b. kept-none ts n (k .1) (b .1)) f
+
+-- and where none fails all are kept: what fails has a number
+abbrev Numbered : List (ℕ × Type 0) → Type 0
+Numbered [] = Unit {0}
+Numbered (t ∷ ts) = (0 ≡ t .0 → ⊥) × Numbered ts
+
+none-kept : (ts : List (ℕ × Type 0)) → Numbered ts → FirstFailing ts 0 → Kept ts
+none-kept [] n f = tt
+none-kept (t ∷ ts) n f = ⊎-elim (λ a. absurd (n .0 (a .1))) (λ b. (b .0, none-kept ts (n .1) (b .1))) f
 
 -- ---- the four
 
@@ -64,20 +74,14 @@ rule-exactly address word =
     let four : ℕ = pick (noRun top) 4 0 in
     let three : ℕ = pick (eqb address 0 && not other) 3 four in
     let two : ℕ = pick (hasBit 16 word && not jumps) 2 three in
-    first (within 0xEC 0xED top) (NoMi word) ((λ e. e), (λ e. e)) 1 two ((2, RrByJumps word) ∷ (3, FirstWord address word) ∷ (4, Runs word) ∷ [])
-    (first (hasBit 16 word && not jumps) (RrByJumps word) (asks (hasBit 16 word) jumps) 2 three ((3, FirstWord address word) ∷ (4, Runs word) ∷ [])
-    (first (eqb address 0 && not other) (FirstWord address word) (first-word address word) 3 four ((4, Runs word) ∷ [])
+    let tests = rules address word in
+    first (within 0xEC 0xED top) (NoMi word) ((λ e. e), (λ e. e)) 1 two (drop 1 tests)
+    (first (hasBit 16 word && not jumps) (RrByJumps word) (asks (hasBit 16 word) jumps) 2 three (drop 2 tests)
+    (first (eqb address 0 && not other) (FirstWord address word) (first-word address word) 3 four (drop 3 tests)
     (first (noRun top) (Runs word) (runs word) 4 0 [] refl)))
 
--- no rule is told where all are kept: what fails first has a number
+-- no rule is told where all are kept
 pub rule-kept : (address word : ℕ) → ruleOf address word ≡ 0 → Kept (rules address word)
 rule-kept address word z =
-    let one = holds (NoMi word) ((2, RrByJumps word) ∷ (3, FirstWord address word) ∷ (4, Runs word) ∷ []) 1 (λ e. omega arith)
-    (rw z at (rule-exactly address word)) in
-    let two = holds (RrByJumps word) ((3, FirstWord address word) ∷ (4, Runs word) ∷ []) 2 (λ e. omega arith) (one .1) in
-    let three = holds (FirstWord address word) ((4, Runs word) ∷ []) 3 (λ e. omega arith) (two .1) in
-    let four = holds (Runs word) [] 4 (λ e. omega arith) (three .1) in
-    (one .0, (two .0, (three .0, (four .0, tt))))
-  where
-    holds : (P : Type 0) (ts : List (ℕ × Type 0)) (n : ℕ) → (0 ≡ n → ⊥) → FirstFailing ((n, P) ∷ ts) 0 → P × FirstFailing ts 0
-    holds P ts n some f = ⊎-elim (λ a. absurd (some (a .1))) (λ b. b) f
+    none-kept (rules address word) ((λ e. omega arith), ((λ e. omega arith), ((λ e. omega arith), ((λ e. omega arith), tt))))
+    (rw z at (rule-exactly address word))

@@ -81,22 +81,25 @@ module _ (s : List ℕ) where
   abbrev Rest : Report
   Rest = brokenFrom 0 (firsts (wordAt s) 0 (length s / 4))
 
-  rest-tells : None 2 (answersIn s) → Whole s → Tells s Rest
-  rest-tells none whole =
+  rest-is : ((a : ℕ) × (r : ℕ) × Broken s a r × (Rest ≡ reportOf 25 a r)) ⊎ (Keeps s × (Rest ≡ reportOf 0 0 0))
+  rest-is =
       ⊎-elim
       (λ (a, lo, hi, z, before, e).
-      rw e (Tells.broken none whole a (ruleOf a (wordAt s a))
-      (record { there = omega arith; some = z; before = λ i l. before i (omega arith) l; first = rule-exactly a (wordAt s a) })))
-      (λ (all, e). rw e (Tells.accepted none whole (λ i l. all i (omega arith) (omega arith))))
+      inl (
+        a,
+        ruleOf a (wordAt s a),
+        record { there = omega arith; some = z; before = λ i l. before i (omega arith) l; first = rule-exactly a (wordAt s a) },
+        e,
+      ))
+      (λ (all, e). inr ((λ i l. all i (omega arith) (omega arith)), e))
       (scanned 0 (length s / 4))
 
+  rest-tells : None 2 (answersIn s) → Whole s → Tells s Rest
+  rest-tells none whole =
+      ⊎-elim (λ (a, r, x, e). rw e (Tells.broken none whole a r x)) (λ (keeps, e). rw e (Tells.accepted none whole keeps)) rest-is
+
   rest-only : (r : Report) → ((a q : ℕ) → Broken s a q → r ≡ reportOf 25 a q) → (Keeps s → r ≡ reportOf 0 0 0) → r ≡ Rest
-  rest-only r broken kept =
-      ⊎-elim
-      (λ (a, lo, hi, z, before, e).
-      broken a _ (record { there = omega arith; some = z; before = λ i l. before i (omega arith) l; first = rule-exactly a (wordAt s a) }) ∙ sym e)
-      (λ (all, e). kept (λ i l. all i (omega arith) (omega arith)) ∙ sym e)
-      (scanned 0 (length s / 4))
+  rest-only r broken kept = ⊎-elim (λ (a, q, x, e). broken a q x ∙ sym e) (λ (keeps, e). kept keeps ∙ sym e) rest-is
 
   -- ---- the lister's answer decides, with room for one byte
   abbrev room : List ℕ
@@ -114,16 +117,6 @@ module _ (s : List ℕ) where
   not-two : {r : Listed} → r ≡ listedOf s 1 → (r .answer ≡ 2 → ⊥) → profileOf s ≡ Rest
   not-two e z = no-two (λ two. z (ap (λ (x : Listed). x .answer) e ∙ two))
 
-  pub tells : Tells s (profileOf s)
-  tells = go (lists s room) refl
-    where
-      go : {r : Listed} {o : List ℕ} → Lists s room r o → r ≡ listedOf s 1 → Tells s (profileOf s)
-      go (Lists.over j f) e = rw (is-two j 0 (sym e)) (Tells.over j f)
-      go (Lists.other-length none other) e = rw (is-two 2048 0 (sym e)) (Tells.other-length none other)
-      go (Lists.unlisted none whole j f) e = rw (not-two e (λ z. omega arith)) (rest-tells none whole)
-      go (Lists.short none whole six h) e = rw (not-two e (λ z. omega arith)) (rest-tells none whole)
-      go (Lists.done none whole six h) e = rw (not-two e (λ z. omega arith)) (rest-tells none whole)
-
   -- the lister gives no 2 to whole words in range
   whole-rest : None 2 (answersIn s) → Whole s → profileOf s ≡ Rest
   whole-rest none whole = go (lists s room) refl
@@ -134,6 +127,19 @@ module _ (s : List ℕ) where
       go (Lists.unlisted two w j f) e = not-two e (λ z. omega arith)
       go (Lists.short two w six h) e = not-two e (λ z. omega arith)
       go (Lists.done two w six h) e = not-two e (λ z. omega arith)
+
+  pub tells : Tells s (profileOf s)
+  tells = go (lists s room) refl
+    where
+      rest : None 2 (answersIn s) → Whole s → Tells s (profileOf s)
+      rest none whole = rw (whole-rest none whole) (rest-tells none whole)
+
+      go : {r : Listed} {o : List ℕ} → Lists s room r o → r ≡ listedOf s 1 → Tells s (profileOf s)
+      go (Lists.over j f) e = rw (is-two j 0 (sym e)) (Tells.over j f)
+      go (Lists.other-length none other) e = rw (is-two 2048 0 (sym e)) (Tells.other-length none other)
+      go (Lists.unlisted none whole j f) e = rest none whole
+      go (Lists.short none whole six h) e = rest none whole
+      go (Lists.done none whole six h) e = rest none whole
 
   -- words that keep all rules break none
   not-both : (a r : ℕ) → Keeps s → Broken s a r → ⊥

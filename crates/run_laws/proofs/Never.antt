@@ -10,7 +10,7 @@ use borrow.Author.Tests.{eqb-true, eqb-false}
 use lib.Dec.{eqb}
 use lib.ListN.{length}
 use Rattle.attempt.specs.Attempt.{attemptOf}
-use Rattle.attempt_laws.proofs.Never.{attempt-never}
+use Rattle.attempt_laws.proofs.Never.{from-seven, attempt-never}
 use Rattle.attempt_laws.specs.Fate.{OtherNumber}
 use Rattle.choose.proofs.Choice.{pick-all}
 use Rattle.deck.specs.Ranges.{wordsInRange, rowsPartInRange, samplesInRange, placesEnough, deckRefusalOf}
@@ -78,6 +78,5 @@ module _ (n : ℕ) (other : OtherNumber n) where
 -- 02, L14: "25 profile broken, .. only from the profile check"
 pub host-not-25 : (deck requests state : List ℕ) (marking : ℕ) → hostOf deck requests state marking .report .answer ≡ 25 → ⊥
 host-not-25 =
-    host-never 25
-    (record { none = λ e. omega arith; two = λ e. omega arith; five = λ e. omega arith; six = λ e. omega arith; eight = λ e. omega arith })
+    host-never 25 (from-seven 25 (omega arith) (λ e. omega arith))
     (not-before 25 (omega arith) (λ e. omega arith) (λ e. omega arith))
