@@ -3,29 +3,13 @@
    Exit status: 0 when every deck was run, refused ones among them, for a refusal is the engine's answer and
    no error here; 1 when a file could not be read or is too long for a deck, or the output could not be
    written; 2 for wrong arguments. */
+#include "room.h"
 #include "show.h"
 
 #include <errno.h>
 #include <stdio.h>
 #include <stdlib.h>
 #include <string.h>
-
-static void complain(const char *name, const char *problem)
-{
-    fflush(stdout); /* what was shown so far comes first */
-    fprintf(stderr, "bench: %s: %s\n", name, problem);
-}
-
-/* Never null: the engine takes no null pointer, even with length 0. */
-static uint8_t *room_for(size_t bytes)
-{
-    uint8_t *room = calloc(bytes ? bytes : 1, 1);
-    if (!room) {
-        complain("memory", strerror(ENOMEM));
-        exit(1);
-    }
-    return room;
-}
 
 /* A file's bytes, up to one more than a deck may have, which is enough for the engine to refuse it.
    Null where it cannot be read; errno says why. */
@@ -41,19 +25,20 @@ static uint8_t *read_deck(const char *name, size_t *length)
     errno = problem;
     if (problem)
         return NULL;
-    /* As long as the deck and no longer, so that a memory checker sees a read past its end. */
     uint8_t *deck = room_for(*length);
     memcpy(deck, buffer, *length);
     return deck;
 }
 
+enum { NOT_GIVEN = -1 };
+
 typedef struct {
-    bool quiet;
-    uint32_t marking;
+    bool quiet, trace;
+    int64_t from, to, marking; /* NOT_GIVEN, or numbers of 32 bits */
 } options;
 
 /* Runs and shows one deck; false when its file cannot be read or is too long. */
-static bool run_deck(const char *name, options asked)
+static bool run_deck(const char *name, const options *asked)
 {
     size_t length;
     uint8_t *deck = read_deck(name, &length);
@@ -61,14 +46,18 @@ static bool run_deck(const char *name, options asked)
         complain(name, strerror(errno));
         return false;
     }
-    outcome ran = {.name = name, .marking = asked.marking};
+    outcome ran = {.name = name, .marking = (uint32_t)asked->marking};
+    window traced = {(uint32_t)asked->from, (uint32_t)asked->to};
     find_sections(deck, length, &ran.deck);
     size_t places = ran.deck.samples * (size_t)REQUEST_BYTES;
     uint8_t *requests = room_for(places), *state = room_for(STATE_BYTES);
-    ran.report = run(deck, length, requests, places, state, STATE_BYTES, asked.marking);
+    ran.report = run(deck, length, requests, places, state, STATE_BYTES, ran.marking);
     ran.requests = requests;
     ran.state = state;
-    (asked.quiet ? show_line : show)(&ran);
+    if (asked->quiet)
+        show_line(&ran);
+    else
+        show(&ran, asked->trace ? &traced : NULL);
     free(state);
     free(requests);
     free(deck);
@@ -80,9 +69,12 @@ static bool run_deck(const char *name, options asked)
 static int usage(void)
 {
     fputs("usage: bench [--quiet] [--marking NUMBER] DECK...\n"
+          "       bench --trace [--from N] [--to M] [--marking NUMBER] DECK...\n"
           "Runs each deck and shows the answer, every attempt's request, and the state before and after.\n"
           "Values are hexadecimal; answers, counts and the numbers of attempts are decimal.\n"
           "  --quiet            one line for each deck: answer, attempts, microcycles, LC and flag byte\n"
+          "  --trace            of every attempt its word, how it ended, its request and what it changed\n"
+          "  --from N, --to M   only of these attempts, counted from 1\n"
           "  --marking NUMBER   of the control chip: 1661 for CP1661B, which is the default, or 1621 for\n"
           "                     CP1621B, which has Q1. The engine answers any other with 24.\n"
           "Status 0: all decks were run, refused or not. 1: a file cannot be read or is too long. 2: usage.\n",
@@ -92,7 +84,7 @@ static int usage(void)
 
 /* The number that a word is, in decimal. False where it is none, or over what the engine takes: it could only be handed
    on as another. */
-static bool read_number(const char *word, uint32_t *number)
+static bool read_number(const char *word, int64_t *number)
 {
     size_t digits = strspn(word, "0123456789");
     if (!digits || word[digits])
@@ -103,34 +95,66 @@ static bool read_number(const char *word, uint32_t *number)
     return !errno && value <= UINT32_MAX;
 }
 
+/* What the option of that name sets; null where it is no such option. */
+static bool *switch_of(const char *word, options *asked)
+{
+    return !strcmp(word, "--quiet") ? &asked->quiet : !strcmp(word, "--trace") ? &asked->trace : NULL;
+}
+
+static int64_t *number_of(const char *word, options *asked)
+{
+    if (!strcmp(word, "--marking"))
+        return &asked->marking;
+    return !strcmp(word, "--from") ? &asked->from : !strcmp(word, "--to") ? &asked->to : NULL;
+}
+
+/* Takes the option at a place, and goes on to its number if it has one. False where it is wrong, or given before. */
+static bool read_option(int count, char **words, int *at, options *asked)
+{
+    bool *chosen = switch_of(words[*at], asked);
+    int64_t *number = number_of(words[*at], asked);
+    if (chosen && !*chosen)
+        return *chosen = true;
+    return number && *number == NOT_GIVEN && ++*at < count && read_number(words[*at], number);
+}
+
+/* Puts in what is not given. False where options do not go together. */
+static bool complete(options *asked)
+{
+    bool windowed = asked->from != NOT_GIVEN || asked->to != NOT_GIVEN;
+    if (asked->trace ? asked->quiet : windowed)
+        return false;
+    if (asked->from == NOT_GIVEN)
+        asked->from = 1;
+    if (asked->to == NOT_GIVEN)
+        asked->to = UINT32_MAX;
+    if (asked->marking == NOT_GIVEN)
+        asked->marking = MARKING_CP1661B;
+    return asked->from >= 1 && asked->from <= asked->to;
+}
+
 /* The options, each at most once. The result is the place of the first deck's name, or 0 for wrong arguments. */
 static int read_options(int count, char **words, options *asked)
 {
     int at = 1;
-    bool marked = false;
-    for (; at < count && words[at][0] == '-'; at++) {
-        if (!strcmp(words[at], "--quiet") && !asked->quiet)
-            asked->quiet = true;
-        else if (!strcmp(words[at], "--marking") && !marked && ++at < count && read_number(words[at], &asked->marking))
-            marked = true;
-        else
+    for (; at < count && words[at][0] == '-'; at++)
+        if (!read_option(count, words, &at, asked))
             return 0;
-    }
     for (int i = at; i < count; i++)
         if (words[i][0] == '-')
             return 0;
-    return at < count ? at : 0;
+    return at < count && complete(asked) ? at : 0;
 }
 
 int main(int count, char **words)
 {
-    options asked = {.marking = MARKING_CP1661B};
+    options asked = {.from = NOT_GIVEN, .to = NOT_GIVEN, .marking = NOT_GIVEN};
     int first = read_options(count, words, &asked);
     bool fine = true;
     if (!first)
         return usage();
     for (int i = first; i < count; i++)
-        fine &= run_deck(words[i], asked);
+        fine &= run_deck(words[i], &asked);
     if (fflush(stdout) || ferror(stdout)) {
         complain("output", "could not be written");
         return 1;

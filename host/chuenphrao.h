@@ -106,7 +106,13 @@ typedef struct {
      5, 6, 8   those before the      the state before the    a request for each attempt made;
                refused attempt       refused attempt         the other places are as found
      1-4, 9    0 and 0               what it held before     what it held before
-     24        0 and 0               what it held before     what it held before */
+     24        0 and 0               what it held before     what it held before
+
+   Samples may be handed in part by part: decks with the same words and rows, in each the state that the one before
+   handed back and the samples that come next, the same marking, and the rest of the request buffer. State,
+   requests, last answer and summed counts are then those of one run of all samples, if that would not have been
+   refused by 9, 24 or 1-4. A part that is refused by 5, 6 or 8 ends it, at the attempt that would have ended the
+   one run. */
 report run(const uint8_t *deck, size_t deck_len, uint8_t *requests, size_t requests_len,
            uint8_t *state, size_t state_len, uint32_t marking);
 

@@ -29,7 +29,7 @@ static const uint8_t *pass(cursor *deck, size_t item, unsigned *count)
 bool find_sections(const uint8_t *deck, size_t length, sections *found)
 {
     cursor at = {deck, length};
-    sections deck_has = {0};
+    sections deck_has = {.first = deck};
     unsigned states = 0;
     bool whole = (deck_has.word = pass(&at, WORD_BYTES, &deck_has.words)) && pass(&at, ROW_BYTES, &deck_has.rows)
         && (deck_has.state = pass(&at, STATE_BYTES, &states))

@@ -8,6 +8,7 @@
 
 typedef struct {
     unsigned words, rows, samples; /* counts */
+    const uint8_t *first;          /* the deck's first byte */
     const uint8_t *word;           /* the first word */
     const uint8_t *state;          /* the state's first byte */
     const uint8_t *sample;         /* the first sample */

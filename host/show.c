@@ -1,64 +1,10 @@
 #include "show.h"
+#include "fields.h"
+#include "texts.h"
 #include "words.h"
 
 #include <stdio.h>
 #include <string.h>
-
-enum { LC = 28, FLAGS = 27, MARKS = 37, MODIFICATION = 39, OUTPUTS = 41, MARKED = 8, COLUMNS = 4, LINES = 14 };
-
-/* The causes that this host can meet: its buffers always fit, and a deck's count cannot say 65,536. */
-static const char *const answers[] = {
-    [ANSWER_DONE] = "all samples used",
-    [ANSWER_STATE] = "state out of range",
-    [ANSWER_WORDS] = "over 2,048 words, or a word of 2^22 or more",
-    [ANSWER_ROWS] = "over 128 rows, or a row out of range",
-    [ANSWER_SAMPLES] = "a sample out of range",
-    [ANSWER_NO_WORD] = "LC has no word",
-    [ANSWER_CODE] = "code unlisted, or AC",
-    [ANSWER_PAIR] = "no longer given",
-    [ANSWER_OPTION] = "option not listed",
-    [ANSWER_DECK] = "deck over 65,536 bytes, state count not 1, or length other than its counts say",
-    [ANSWER_MARKING] = "unknown marking",
-};
-
-static const char *const kinds[KINDS] = {
-    [KIND_NONE] = "none",
-    [KIND_READ] = "read",
-    [KIND_WRITE] = "write",
-    [KIND_READ_ACKNOWLEDGE] = "read acknowledge",
-    [KIND_WRITE_ACKNOWLEDGE] = "write acknowledge",
-    [KIND_DATA_IN] = "data in",
-    [KIND_WORD_OUT] = "word out",
-    [KIND_BYTE_OUT] = "byte out",
-    [KIND_STATUS_OUT] = "status out",
-    [KIND_STATUS_IN] = "status in",
-    [KIND_WAIT] = "wait",
-    [KIND_RESET] = "RESET",
-    [KIND_COMPUTE_LOW] = "COMPUTE low",
-};
-
-/* A field of the state: its first byte, its lowest bit there and its number of bits. */
-typedef struct {
-    const char *name;
-    unsigned at, shift, bits;
-} field;
-
-#define BYTE(name, at) {name, at, 0, 8}
-#define BIT(name, at, shift) {name, at, shift, 1}
-
-static const field fields[COLUMNS][LINES] = {
-    {BYTE("G0", 0), BYTE("G1", 1), BYTE("G2", 2), BYTE("G3", 3), BYTE("G4", 4), BYTE("G5", 5), BYTE("G6", 6),
-     BYTE("G7", 7), BYTE("G8", 8), BYTE("G9", 9), BYTE("GA", 10), BYTE("GB", 11), {"G", 26, 0, 3}},
-    {BYTE("R2", 12), BYTE("R3", 13), BYTE("R4", 14), BYTE("R5", 15), BYTE("R6", 16), BYTE("R7", 17),
-     BYTE("R8", 18), BYTE("R9", 19), BYTE("RA", 20), BYTE("RB", 21), BYTE("RC", 22), BYTE("RD", 23),
-     BYTE("RE", 24), BYTE("RF", 25)},
-    {BIT("N", FLAGS, 7), BIT("Z", FLAGS, 6), BIT("V", FLAGS, 5), BIT("C", FLAGS, 4), BIT("NB", FLAGS, 3),
-     BIT("ZB", FLAGS, 2), BIT("C4", FLAGS, 1), BIT("C8", FLAGS, 0), BIT("I4", 38, 0), BIT("I5", 38, 1),
-     BIT("I6", 38, 2)},
-    {{"LC", LC, 0, 11}, {"RR", 30, 0, 11}, {"outputs", OUTPUTS, 0, 4}, {"TR", 32, 0, 16}, {"M", 34, 0, 16},
-     {"TSR", 36, 0, 3}, BIT("ICS", MARKS, 0), BIT("SYNC", MARKS, 1), BIT("IACK", MARKS, 2),
-     {"modification", MODIFICATION, 0, 16}},
-};
 
 static bool was_run(const outcome *ran)
 {
@@ -79,12 +25,6 @@ static void show_marking(uint32_t marking)
 {
     bool known = marking == MARKING_CP1661B || marking == MARKING_CP1621B;
     printf(known ? "  marking      CP%uB\n" : "  marking      %u\n", marking);
-}
-
-static const char *answer_text(uint32_t answer)
-{
-    const char *text = answer < sizeof answers / sizeof *answers ? answers[answer] : NULL;
-    return text ? text : "no answer of the engine's interface";
 }
 
 static void show_answer(const outcome *ran)
@@ -110,41 +50,24 @@ static void show_answer(const outcome *ran)
 /* The sample's data and the lines that are high. */
 static void show_sample(const uint8_t *sample)
 {
-    static const struct {
-        const char *name;
-        unsigned at, bit;
-    } lines[] = {{"COMPUTE", 2, 2}, {"REPLY", 2, 0}, {"BUSY", 2, 1}, {"RESET", 2, 3}, {"ICS", 2, 4},
-                 {"I0", 3, 0},      {"I1", 3, 1},    {"I2", 3, 2},   {"I3", 3, 3}};
     printf("  %04X ", number_at(sample));
-    if (sample[2] == 0 && sample[3] == 0)
-        printf(" -");
-    for (size_t i = 0; i < sizeof lines / sizeof *lines; i++)
-        if (sample[lines[i].at] >> lines[i].bit & 1)
-            printf(" %s", lines[i].name);
-    putchar('\n');
+    show_lines(sample);
 }
 
-/* The numbers of the attempts from first up to but not with next, both counted from 0. */
 static void show_numbers(unsigned first, unsigned next)
 {
-    char numbers[24];
-    if (next - first == 1)
-        snprintf(numbers, sizeof numbers, "%u", next);
-    else
-        snprintf(numbers, sizeof numbers, "%u-%u", first + 1, next);
+    char numbers[NUMBERS_ROOM];
+    write_numbers(numbers, first, next);
     printf("  %-11s", numbers);
 }
 
 static void show_request(const uint8_t *request)
 {
-    unsigned kind = number_at(request + 2), value = number_at(request);
-    bool valued = kind != KIND_NONE && kind < KIND_WAIT;
-    if (kind < KINDS)
-        printf("  %-17s", kinds[kind]);
-    else
-        printf("  unknown kind %-4u", kind);
-    if (valued || value != 0)
-        printf("   %04X", value);
+    char kind[KIND_ROOM];
+    write_kind(kind, request);
+    printf("  %-17s", kind);
+    if (has_value(request))
+        printf("   %04X", number_at(request));
     else
         printf("       ");
 }
@@ -180,19 +103,11 @@ static void show_attempts(const outcome *ran)
     }
 }
 
-/* A field's value, or -1 for a modification that is not waiting. */
-static int value_of(const field *of, const uint8_t *state)
+static int show_value(const field *of, int value)
 {
-    unsigned whole = of->bits > 8 ? number_at(state + of->at) : state[of->at];
-    if (of->at == MODIFICATION && !(state[MARKS] & MARKED))
-        return -1;
-    return (int)(whole >> of->shift & ((1u << of->bits) - 1));
-}
-
-static int show_value(int value, unsigned bits)
-{
-    int digits = (int)(bits + 3) / 4;
-    return value < 0 ? printf("%7s", "-") : printf("%*s%0*X", 7 - digits, "", digits, (unsigned)value);
+    char text[VALUE_ROOM];
+    write_value(text, of, value);
+    return printf("%7s", text);
 }
 
 /* Shows a field's name, its value before and after and a mark if they differ, from where its column starts;
@@ -204,8 +119,8 @@ static int show_field(int at, unsigned column, const field *of, const outcome *r
         return at;
     int before = value_of(of, ran->deck.state), after = value_of(of, ran->state);
     at += printf("%*s%-*s", start[column] - at, "", column == COLUMNS - 1 ? 12 : 2, of->name);
-    at += show_value(before, of->bits);
-    at += show_value(after, of->bits);
+    at += show_value(of, before);
+    at += show_value(of, after);
     return at + (before != after ? printf(" *") : 0);
 }
 
@@ -220,12 +135,15 @@ static void show_state(const outcome *ran)
     }
 }
 
-void show(const outcome *ran)
+void show(const outcome *ran, const window *traced)
 {
     printf("%s\n", ran->name);
     show_answer(ran);
     if (was_run(ran)) {
-        show_attempts(ran);
+        if (traced)
+            show_trace(&ran->deck, ran->marking, traced);
+        else
+            show_attempts(ran);
         show_state(ran);
     }
     putchar('\n');

@@ -4,6 +4,7 @@
 
 #include "chuenphrao.h"
 #include "deck.h"
+#include "trace.h"
 
 typedef struct {
     const char *name; /* of the deck's file */
@@ -13,8 +14,9 @@ typedef struct {
     const uint8_t *requests, *state; /* as the engine left them */
 } outcome;
 
-/* Answer, counts, each attempt's request, the state before and after. */
-void show(const outcome *ran);
+/* Answer, counts, each attempt's request, the state before and after. Where a window is given, a trace of its attempts in the place
+   of the requests. */
+void show(const outcome *ran, const window *traced);
 
 /* Answer, counts, LC and flag byte in one line. */
 void show_line(const outcome *ran);

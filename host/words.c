@@ -1,5 +1,4 @@
 #include "words.h"
-#include "chuenphrao.h"
 
 #include <stdio.h>
 #include <string.h>
@@ -16,7 +15,7 @@ static const uint8_t *word_at(const sections *deck, unsigned i)
 }
 
 /* The lister refuses all words for one that it cannot list, so that one is a NOP to it from then on. The result is the
-   length of the listing. */
+   length of the listing, 0 where there is none. */
 static size_t list(const sections *deck)
 {
     static const uint8_t nop[WORD_BYTES] = {0x00, 0xFF};
@@ -30,7 +29,7 @@ static size_t list(const sections *deck)
         memcpy(words + made.at * (size_t)WORD_BYTES, nop, WORD_BYTES);
         made = list_words(words, bytes, text, sizeof text);
     }
-    return made.length;
+    return made.answer ? 0 : made.length;
 }
 
 /* False where there are fewer lines than words, which is no listing of them. */
@@ -46,26 +45,39 @@ static bool find_lines(const sections *deck, size_t length)
     return true;
 }
 
-static void show_line_of(const sections *deck, unsigned i)
+/* Why a word has no line in the listing. */
+static const char *why_not(uint8_t answer)
 {
-    unsigned word = number_at(word_at(deck, i)) | number_at(word_at(deck, i) + 2) << 16;
-    if (refused[i])
-        printf("%03X %04X %s\n", i, word, refused[i] == LISTING_CODE ? "unlisted" : "out of range");
+    return answer == LISTING_CODE ? "unlisted" : answer == LISTING_WORDS ? "out of range" : "not listed";
+}
+
+void write_word(char line[LINE_ROOM], const sections *deck, unsigned address)
+{
+    if (address >= deck->words) {
+        snprintf(line, LINE_ROOM, "%03X no word", address);
+        return;
+    }
+    const uint8_t *bytes = word_at(deck, address);
+    unsigned word = number_at(bytes) | number_at(bytes + 2) << 16;
+    if (refused[address])
+        snprintf(line, LINE_ROOM, "%03X %04X %s", address, word, why_not(refused[address]));
     else
-        printf("%.*s", (int)(lines[i + 1] - lines[i]), (const char *)lines[i]);
+        snprintf(line, LINE_ROOM, "%.*s", (int)(lines[address + 1] - lines[address]) - 1, (const char *)lines[address]);
 }
 
 void show_words(const sections *deck)
 {
+    char line[LINE_ROOM];
     if (deck->words > WORDS_MOST || !find_lines(deck, list(deck))) {
+        memset(refused, LISTING_ROOM, sizeof refused); /* no word has a line */
         puts("  words        not listed");
         return;
     }
     for (unsigned i = 0, next; i < deck->words; i = next) {
         for (next = i + 1; next < deck->words && !memcmp(word_at(deck, i), word_at(deck, next), WORD_BYTES); next++)
             ;
-        printf("  %-11s  ", i ? "" : "words");
-        show_line_of(deck, i);
+        write_word(line, deck, i);
+        printf("  %-11s  %s\n", i ? "" : "words", line);
         if (next > i + 2)
             printf("  %-11s  %03X-%03X the same\n", "", i + 1, next - 1);
         else

@@ -29,6 +29,7 @@ void expect(bool holds, const char *what)
 static void bench(const call *made)
 {
     static char name[32], program[] = "bench", quiet[] = "--quiet";
+    static char trace[] = "--trace", from[] = "--from", second[] = "2", to[] = "--to", fifth[] = "5"; /* some, so that inputs stay many */
     static int file = -1;
     if (file < 0) {
         file = memfd_create("deck", 0);
@@ -37,8 +38,12 @@ static void bench(const call *made)
     expect(!ftruncate(file, 0) && pwrite(file, made->deck, made->deck_len, 0) == (ssize_t)made->deck_len,
            "the deck can be written to a file");
     char *in_full[] = {program, name, NULL}, *in_a_line[] = {program, quiet, name, NULL};
+    char *by_attempts[] = {program, trace, from, second, to, fifth, name, NULL};
+    int too_long = made->deck_len > DECK_MOST;
     int status = made->shown ? bench_main(2, in_full) : bench_main(3, in_a_line);
-    expect(status == (made->deck_len > DECK_MOST), "the bench host's status is by the deck's length");
+    expect(status == too_long, "the bench host's status is by the deck's length");
+    if (made->shown)
+        expect(bench_main(7, by_attempts) == too_long, "so is the status of a trace");
 }
 
 int LLVMFuzzerTestOneInput(const uint8_t *bytes, size_t length)

@@ -9,7 +9,7 @@ use native.Mathlib.Omega.{arith}
 use borrow.Author.Tests.{leb-true, le-leb, eqb-true, eq-eqb, lt-ltb}
 use lib.Dec.{eqb, leb, ltb}
 use lib.ListN.{length, take, drop, length-append}
-use lib.Seq.{drop-cons, getD-append-add}
+use lib.Seq.{drop-cons, drop-append-add, take-at, getD-append-add}
 use Rattle.choose.specs.Below.{allBelow}
 use Rattle.choose.proofs.Table.{all-at}
 use Rattle.choose.proofs.Tests.{both-true}
@@ -25,7 +25,7 @@ use Rattle.state_bytes.specs.Range.{stateInRange}
 use Rattle.state_bytes.proofs.Order.{state-range-exactly}
 use Rattle.deck.specs.Elements.{linesAt, interruptsAt}
 use Rattle.deck.specs.Ranges.{wordsInRange, rowsPartInRange, samplesInRange, placesEnough, unless, deckRefusalOf}
-use Rattle.deck.specs.Sections.{countAt, sectionEnd, layoutOf, wholeOf, wordsPart, rowsPart, statePart, samplesPart}
+use Rattle.deck.specs.Sections.{countAt, sectionEnd, layoutOf, wholeOf, sectionOf, wordsPart, rowsPart, statePart, samplesPart}
 use Rattle.deck.specs.Slip.{counted, Sections, Whole, Old, Printed, WordsAllowed, RowsAllowed, SamplesAllowed, slip, FirstFailing}
 use Rattle.deck.proofs.Every.{rows-every}
 use Rattle.deck.proofs.Laws.{tested, fits, section-end-ge, part-length, whole-deck, section-bytes, word-below, samples-few, sample-in-range}
@@ -76,12 +76,18 @@ rows-exactly s = (
       )),
 )
 
-one-sample : {s : List ℕ} {requests : ℕ} → SamplesAllowed s requests → (i : ℕ) → i < length s / 4
-    → leb (linesAt s i) 31 && leb (interruptsAt s i) 15 ≡ true
-one-sample {s} a i l = let e = a .each i l in rw (le-leb (linesAt s i) 31 (omega arith), le-leb (interruptsAt s i) 15 (omega arith))
+-- few samples, each in range
+pub samples-tested : (s : List ℕ) → length s / 4 ≤ 65535 → ((i : ℕ) → i < length s / 4 → (linesAt s i ≤ 31) × (interruptsAt s i ≤ 15))
+    → samplesInRange s ≡ true
+unfolding samplesInRange
+samples-tested s few each =
+    rw (
+      le-leb _ _ few,
+      all-each (λ i. leb (linesAt s i) 31 && leb (interruptsAt s i) 15) _
+          (λ i l. let e = each i l in rw (le-leb (linesAt s i) 31 (e .0), le-leb (interruptsAt s i) 15 (e .1))),
+    )
 
 samples-exactly : (s : List ℕ) → Bytes s → (requests : ℕ) → Decides (samplesInRange s && placesEnough s requests) (SamplesAllowed s requests)
-unfolding samplesInRange
 samples-exactly s b requests = (
   (λ h.
       let p = and-eq-true-iff (samplesInRange s) (placesEnough s requests) .0 h in
@@ -94,12 +100,7 @@ samples-exactly s b requests = (
             omega arith;
         places = leb-true _ _ (p .1);
       }),
-  (λ a.
-      rw (
-        le-leb _ _ (a .few),
-        le-leb _ _ (a .places),
-        all-each (λ i. leb (linesAt s i) 31 && leb (interruptsAt s i) 15) _ (one-sample a),
-      )),
+  (λ a. rw (samples-tested s (a .few) (λ i l. let e = a .each i l in (omega arith, omega arith)), le-leb _ _ (a .places))),
 )
 
 -- ---- a whole deck is its four sections
@@ -118,7 +119,7 @@ module _ (s : List ℕ) (b : Bytes s) (h : wholeOf s ≡ true) where
       let samples = section-end-ge s (layoutOf s .samples) 4 in
       omega arith
 
-  sections-of : Sections stateBytes s
+  pub sections-of : Sections stateBytes s
   sections-of =
       let l = layoutOf s in
       let f = fits s h in
@@ -152,6 +153,15 @@ module _ (s before part rest : List ℕ) (size n : ℕ) (e : s ≡ before ++ (co
       let low : byteAt (before ++ l) (length before) ≡ n % 256 = ap (byteAt (before ++ l)) start ∙ getD-append-add before l 0 0 in
       let high : byteAt (before ++ l) (length before + 1) ≡ n / 256 = getD-append-add before l 1 0 in
       rw e (omega arith)
+
+  -- and what comes after it
+  part-is : wholeOf s ≡ true → sectionOf s (length before) size ≡ part
+  unfolding sectionOf
+  part-is h =
+      rw (h, count-is)
+      (ap (λ (l : List ℕ). take (size * n) (drop (length before + 2) l)) e
+      ∙ ap (take (size * n)) (drop-append-add before (counted n part ++ rest) 2)
+      ∙ take-at part rest (size * n) m)
 
   next : s ≡ (before ++ counted n part) ++ rest
   next = e ∙ sym (append-assoc before (counted n part) rest)
@@ -192,21 +202,34 @@ module _ (s : List ℕ) (c : Sections stateBytes s) where
   unfolding layoutOf
   samples-at = ap (λ (a : ℕ). sectionEnd s a stateBytes) state-at ∙ end-is s rows (c .state-part) samples stateBytes 1 after-rows (c .state-size)
 
+  last : s ≡ state ++ (samples ++ [])
+  last = all ∙ ap (λ (l : List ℕ). state ++ l) (sym (append-nil samples))
+
   end-at : layoutOf s .end ≡ length s
   unfolding layoutOf
   end-at =
-      let last : s ≡ state ++ (samples ++ []) = all ∙ ap (λ (l : List ℕ). state ++ l) (sym (append-nil samples)) in
       ap (λ (a : ℕ). sectionEnd s a 4) samples-at ∙ end-is s state (c .samples-part) [] 4 (c .samples) last (c .samples-size) ∙ ap length (sym all)
 
   one-state : countAt s (layoutOf s .state) ≡ 1
   one-state = ap (countAt s) state-at ∙ count-is s rows (c .state-part) samples stateBytes 1 after-rows (c .state-size)
 
-  whole-is : length s ≤ 65536 → wholeOf s ≡ true
+  pub whole-is : length s ≤ 65536 → wholeOf s ≡ true
   unfolding wholeOf
   whole-is l = rw (le-leb _ _ l, eq-eqb _ 1 one-state, eq-eqb _ _ end-at)
 
+  -- and these are its parts
+  pub parts-are : length s ≤ 65536
+      → (wordsPart s ≡ c .words-part) × (rowsPart s ≡ c .rows-part) × (statePart s ≡ c .state-part) × (samplesPart s ≡ c .samples-part)
+  parts-are l =
+      let h = whole-is l in (
+        part-is s [] (c .words-part) _ 4 (c .words) (c .order) (c .words-size) h,
+        ap (λ (a : ℕ). sectionOf s a 16) rows-at ∙ part-is s words (c .rows-part) _ 16 (c .rows) (c .order) (c .rows-size) h,
+        ap (λ (a : ℕ). sectionOf s a stateBytes) state-at ∙ part-is s rows (c .state-part) samples stateBytes 1 after-rows (c .state-size) h,
+        ap (λ (a : ℕ). sectionOf s a 4) samples-at ∙ part-is s state (c .samples-part) [] 4 (c .samples) last (c .samples-size) h,
+      )
+
 -- ---- the slip
-sections-length : (bytes : ℕ) (s : List ℕ) (c : Sections bytes s) → length s ≡ 8 + 4 * c .words + 16 * c .rows + bytes + 4 * c .samples
+pub sections-length : (bytes : ℕ) (s : List ℕ) (c : Sections bytes s) → length s ≡ 8 + 4 * c .words + 16 * c .rows + bytes + 4 * c .samples
 sections-length bytes s c = ap length (c .order) ∙ simp length-append (omega arith)
 
 -- the numbers that are printed

@@ -148,18 +148,18 @@ module _ (ws : List ℕ) (rs : List Row) where
         rw made at (r .microcycles)
 
 -- ---- the same samples, told otherwise
-sum-same : (n : ℕ) (f g : ℕ → ℕ) → ((j : ℕ) → j < n → f j ≡ g j) → sumBelow n f ≡ sumBelow n g
+pub sum-same : (n : ℕ) (f g : ℕ → ℕ) → ((j : ℕ) → j < n → f j ≡ g j) → sumBelow n f ≡ sumBelow n g
 sum-same zero f g e = refl
 sum-same (suc n) f g e = omega (arith, sum-same n f g (λ j l. e j (omega arith)), e n (omega arith))
 
 module _ (ws : List ℕ) (rs : List Row) (at at′ : ℕ → Sample) (x : Leaves Core) where
-  state-same : (i : ℕ) → ((j : ℕ) → j < i → at j ≡ at′ j) → stateAfter ws rs at x i ≡ stateAfter ws rs at′ x i
+  pub state-same : (i : ℕ) → ((j : ℕ) → j < i → at j ≡ at′ j) → stateAfter ws rs at x i ≡ stateAfter ws rs at′ x i
   unfolding stateAfter
   state-same zero e = refl
   state-same (suc i) e =
       ap₂ (λ (y : Leaves Core) (s : Sample). leftBy (attemptFrom ws rs y s)) (state-same i (λ j l. e j (omega arith))) (e i (omega arith))
 
-  attempt-same : (i : ℕ) → ((j : ℕ) → j < suc i → at j ≡ at′ j) → attemptAt ws rs at x i ≡ attemptAt ws rs at′ x i
+  pub attempt-same : (i : ℕ) → ((j : ℕ) → j < suc i → at j ≡ at′ j) → attemptAt ws rs at x i ≡ attemptAt ws rs at′ x i
   attempt-same i e = ap₂ (attemptFrom ws rs) (state-same i (λ j l. e j (omega arith))) (e i (omega arith))
 
 module _ (ws : List ℕ) (rs : List Row) (at at′ : ℕ → Sample) (n : ℕ) (w v : World) (r : Ran ws rs at n w v) where

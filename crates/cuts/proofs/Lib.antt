@@ -1,0 +1,6 @@
+pub mod Runs
+pub mod Samples
+pub mod Decks
+pub mod Hosts
+pub mod Trace
+pub mod Example

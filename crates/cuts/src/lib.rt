@@ -1,0 +1,1 @@
+// Laws of a run whose samples are cut: no code.

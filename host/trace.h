@@ -1,0 +1,16 @@
+/* A deck's run attempt by attempt. */
+#ifndef TRACE_H
+#define TRACE_H
+
+#include "deck.h"
+
+/* The attempts to be shown, counted from 1. */
+typedef struct {
+    uint32_t from, to;
+} window;
+
+/* Of each attempt in the window its word, outcome and request, its sample, and what it changed. One run of the whole deck was
+   not refused by 9, 24 or 1-4, and its words were shown before. */
+void show_trace(const sections *deck, uint32_t marking, const window *asked);
+
+#endif
