@@ -1,7 +1,6 @@
 //! A driver: compiled code in a process of its own, which answers calls one after the other.
 
 use std::io::{self, BufReader, BufWriter, Read, Write};
-use std::os::unix::process::CommandExt;
 use std::process::{Command, Stdio};
 use std::thread;
 
@@ -27,11 +26,11 @@ impl Driver {
     }
 
     /// Runs the calls in one process. When that dies, answers are missing from the call that killed
-    /// it on. An interrupt from the terminal does not reach it: an emulator may lose an answer by one.
+    /// it on. An interrupt from the terminal does not reach it, which has a session of its own: an
+    /// emulator may lose an answer by one.
     pub fn run<C: Asked>(&self, calls: &[C]) -> io::Result<Vec<C::Answer>> {
-        let mut child = Command::new(&self.0[0])
-            .args(&self.0[1..])
-            .process_group(0)
+        let mut child = Command::new("setsid")
+            .args(&self.0)
             .stdin(Stdio::piped())
             .stdout(Stdio::piped())
             .spawn()?;
