@@ -29,7 +29,8 @@ void expect(bool holds, const char *what)
 static void bench(const call *made)
 {
     static char name[32], program[] = "bench", quiet[] = "--quiet";
-    static char trace[] = "--trace", from[] = "--from", second[] = "2", to[] = "--to", fifth[] = "5"; /* some, so that inputs stay many */
+    /* Of a trace only some attempts: a whole one takes the time of many inputs. */
+    static char trace[] = "--trace", from[] = "--from", second[] = "2", to[] = "--to", fifth[] = "5";
     static int file = -1;
     if (file < 0) {
         file = memfd_create("deck", 0);

@@ -6,8 +6,7 @@ use mathlib.Core.List.{List, _++_}
 use native.Mathlib.Omega.{arith}
 use lib.ListN.{length, take, drop, length-drop}
 use lib.Seq.{getD-take, getD-drop, length-take-le}
-use Rattle.deck.proofs.Laws.{accepted, not-refused, section-bytes, samples-few, sample-in-range}
-use Rattle.deck.proofs.Laws.{tested as deck-tested}
+use Rattle.deck.proofs.Laws.{accepted, not-refused, section-bytes, samples-few, sample-in-range, tested as deck-tested}
 use Rattle.deck.proofs.Slip.{samples-tested, sections-of, sections-length, whole-is, parts-are}
 use Rattle.deck.specs.Elements.{linesAt, interruptsAt}
 use Rattle.deck.specs.Ranges.{samplesInRange, deckRefusalOf}

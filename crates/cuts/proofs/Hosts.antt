@@ -40,6 +40,9 @@ told-together v u s t n e e′ used = rw (stored-bytes (u .file) (u .core) s e, 
 
 module _ (deck requests state : List ℕ) (marking : ℕ) (b : Bytes deck) (h : deckRefusalOf deck (length requests) (length state) marking ≡ 0)
     (n : ℕ) (l : n ≤ sampleCount deck) where
+  first-size : length (take (n * 4) (samplesPart deck)) ≡ n * 4
+  first-size = length-take-le (n * 4) (samplesPart deck) (omega arith)
+
   -- ---- the two decks of a cut are decks
   pub first-is-deck : IsDeck (firstDeck deck n) (wordsPart deck) (rowsPart deck) (statePart deck) (take (n * 4) (samplesPart deck))
       (length requests) (length state) marking
@@ -47,7 +50,7 @@ module _ (deck requests state : List ℕ) (marking : ℕ) (b : Bytes deck) (h : 
   first-is-deck =
       let a = accepted deck (length requests) (length state) marking h in
       let s = samplesPart deck in
-      let size : length (take (n * 4) s) ≡ n * 4 = length-take-le (n * 4) s (omega arith) in
+      let size = first-size in
       is-deck deck b (length requests) (length state) marking h (statePart deck) (take (n * 4) s) (length requests)
       (record {
         state-bytes = section-bytes deck (layoutOf deck .state) stateBytes b;
@@ -58,6 +61,9 @@ module _ (deck requests state : List ℕ) (marking : ℕ) (b : Bytes deck) (h : 
         no-more = omega arith;
         enough = omega (arith, a .places);
       })
+
+  pub first-count : sampleCount (firstDeck deck n) ≡ n
+  first-count = rw (first-is-deck .samples-same) (omega (arith, first-size))
 
   abbrev first : Hosted
   first = hostOf (firstDeck deck n) requests state marking
@@ -120,8 +126,7 @@ module _ (deck requests state : List ℕ) (marking : ℕ) (b : Bytes deck) (h : 
   first-run : deckRun (firstDeck deck n) requests (markingOf marking) ≡ reached
   first-run =
       let s = take (n * 4) (samplesPart deck) in
-      let size : length s ≡ n * 4 = length-take-le (n * 4) (samplesPart deck) (omega arith) in
-      let count : length s / 4 ≡ n = omega arith in
+      let count : length s / 4 ≡ n = omega (arith, first-size) in
       part-run (firstDeck deck n) s (statePart deck) requests (length requests) (length state) first-is-deck ∙ rw count
 
   first-is : first ≡ told reached state

@@ -159,7 +159,7 @@ module _ (ws : List ℕ) (rs : List Row) (at at′ : ℕ → Sample) (x : Leaves
   state-same (suc i) e =
       ap₂ (λ (y : Leaves Core) (s : Sample). leftBy (attemptFrom ws rs y s)) (state-same i (λ j l. e j (omega arith))) (e i (omega arith))
 
-  pub attempt-same : (i : ℕ) → ((j : ℕ) → j < suc i → at j ≡ at′ j) → attemptAt ws rs at x i ≡ attemptAt ws rs at′ x i
+  attempt-same : (i : ℕ) → ((j : ℕ) → j < suc i → at j ≡ at′ j) → attemptAt ws rs at x i ≡ attemptAt ws rs at′ x i
   attempt-same i e = ap₂ (attemptFrom ws rs) (state-same i (λ j l. e j (omega arith))) (e i (omega arith))
 
 module _ (ws : List ℕ) (rs : List Row) (at at′ : ℕ → Sample) (n : ℕ) (w v : World) (r : Ran ws rs at n w v) where

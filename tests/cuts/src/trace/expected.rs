@@ -1,6 +1,7 @@
 //! The lines that an attempt is to have in the trace.
 
 use super::text::{Came, Line};
+use compare::lines;
 use interpreter::Outcome;
 
 /// The requests by their kinds.
@@ -18,19 +19,6 @@ const KINDS: [&str; 13] = [
     "wait",
     "RESET",
     "COMPUTE low",
-];
-
-/// The lines of a sample: byte, bit and name, in the order of the trace.
-const LINES: [(usize, u8, &str); 9] = [
-    (2, 2, "COMPUTE"),
-    (2, 0, "REPLY"),
-    (2, 1, "BUSY"),
-    (2, 3, "RESET"),
-    (2, 4, "ICS"),
-    (3, 0, "I0"),
-    (3, 1, "I1"),
-    (3, 2, "I2"),
-    (3, 3, "I3"),
 ];
 
 /// An attempt's own line.
@@ -76,13 +64,13 @@ fn refusal(answer: u8) -> String {
 
 /// A sample's data, and the lines that are high.
 pub fn sample(bytes: &[u8]) -> String {
-    let data = format!("{:02X}{:02X}", bytes[1], bytes[0]);
-    let high = LINES
-        .iter()
-        .filter(|(at, bit, _)| bytes[*at] >> bit & 1 == 1);
-    let high: Vec<&str> = high.map(|&(_, _, name)| name).collect();
-    match high.is_empty() {
-        true => format!("{data} -"),
-        false => format!("{data} {}", high.join(" ")),
-    }
+    let names = lines::names(bytes[2]).into_iter().map(String::from);
+    let interrupts = (0..4).filter(|at| bytes[3] >> at & 1 == 1);
+    let names = names.chain(interrupts.map(|at| format!("I{at}")));
+    let high: Vec<String> = names.collect();
+    let high = match high.is_empty() {
+        true => "-".to_string(),
+        false => high.join(" "),
+    };
+    format!("{:02X}{:02X} {high}", bytes[1], bytes[0])
 }

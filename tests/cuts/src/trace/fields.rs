@@ -1,5 +1,6 @@
 //! The fields of a state by their names in the trace.
 
+use crate::cutter::{MARKS, WAITING};
 use compare::fields::registers;
 use interpreter::STATE_BYTES;
 
@@ -9,9 +10,6 @@ pub type Bytes = [u8; STATE_BYTES];
 /// What stands for a modification that is not waiting.
 const NONE: &str = "-";
 const MODIFICATION: usize = 39;
-/// Where the mark of a waiting modification is.
-const MARKS: usize = 37;
-const MARK: u8 = 8;
 
 /// A field: its first byte, its lowest bit there and its number of bits.
 struct Field {
@@ -107,7 +105,7 @@ impl Field {
 
     /// The value in as many digits as its bits need.
     fn text(&self, state: &Bytes) -> String {
-        if self.at == MODIFICATION && state[MARKS] & MARK == 0 {
+        if self.at == MODIFICATION && state[MARKS] & WAITING == 0 {
             return NONE.to_string();
         }
         let high = if self.bits > 8 { state[self.at + 1] } else { 0 };
@@ -129,7 +127,7 @@ impl Field {
             state[self.at + 1] = state[self.at + 1] & !high_mask | high & high_mask;
         }
         if self.at == MODIFICATION {
-            state[MARKS] = state[MARKS] & !MARK | if none { 0 } else { MARK };
+            state[MARKS] = state[MARKS] & !WAITING | if none { 0 } else { WAITING };
         }
         (self.text(state) == text).then_some(())
     }
