@@ -1,8 +1,9 @@
 /* The bench host: hands decks to the engine and shows what a board must show.
 
    Exit status: 0 when every deck was run, refused ones among them, for a refusal is the engine's answer and
-   no error here; 1 when a file could not be read or is too long for a deck, or the output could not be
-   written; 2 for wrong arguments. */
+   no error here; 1 when a file could not be read, is too long for a deck or a memory, or too short for a memory, or
+   the output could not be written; 2 for wrong arguments. */
+#include "file.h"
 #include "room.h"
 #include "show.h"
 
@@ -11,25 +12,6 @@
 #include <stdlib.h>
 #include <string.h>
 
-/* A file's bytes, up to one more than a deck may have, which is enough for the engine to refuse it.
-   Null where it cannot be read; errno says why. */
-static uint8_t *read_deck(const char *name, size_t *length)
-{
-    static uint8_t buffer[DECK_MOST + 1];
-    FILE *file = fopen(name, "rb");
-    if (!file)
-        return NULL;
-    *length = fread(buffer, 1, sizeof buffer, file);
-    int problem = ferror(file) ? errno : 0;
-    fclose(file);
-    errno = problem;
-    if (problem)
-        return NULL;
-    uint8_t *deck = room_for(*length);
-    memcpy(deck, buffer, *length);
-    return deck;
-}
-
 enum { NOT_GIVEN = -1 };
 
 typedef struct {
@@ -37,33 +19,46 @@ typedef struct {
     int64_t from, to, marking; /* NOT_GIVEN, or numbers of 32 bits */
 } options;
 
-/* Runs and shows one deck; false when its file cannot be read or is too long. */
-static bool run_deck(const char *name, const options *asked)
+/* Runs a deck's bytes, with its memory if it has one, and shows what came of it. */
+static void run_bytes(const uint8_t *deck, size_t length, outcome *ran, const options *asked)
 {
-    size_t length;
-    uint8_t *deck = read_deck(name, &length);
-    if (!deck) {
-        complain(name, strerror(errno));
-        return false;
-    }
-    outcome ran = {.name = name, .marking = (uint32_t)asked->marking};
     window traced = {(uint32_t)asked->from, (uint32_t)asked->to};
-    find_sections(deck, length, &ran.deck);
-    size_t places = ran.deck.samples * (size_t)REQUEST_BYTES;
+    bus_memory *memory = &ran->memory;
+    find_sections(deck, length, &ran->deck);
+    size_t places = ran->deck.samples * (size_t)REQUEST_BYTES;
     uint8_t *requests = room_for(places), *state = room_for(STATE_BYTES);
-    ran.report = run(deck, length, requests, places, state, STATE_BYTES, ran.marking);
-    ran.requests = requests;
-    ran.state = state;
+    ran->report = memory->before
+        ? run_with_memory(deck, length, memory->after, memory->length, memory->delay, requests, places, state,
+                          STATE_BYTES, ran->marking)
+        : run(deck, length, requests, places, state, STATE_BYTES, ran->marking);
+    ran->requests = requests;
+    ran->state = state;
     if (asked->quiet)
-        show_line(&ran);
+        show_line(ran);
     else
-        show(&ran, asked->trace ? &traced : NULL);
+        show(ran, asked->trace ? &traced : NULL);
     free(state);
     free(requests);
+}
+
+/* Runs and shows one deck; false when its file or its memory's cannot be read, the deck is over 65,536 bytes, or the
+   memory's file is shorter than the 4 bytes of its delay or over 65,540 bytes. */
+static bool run_deck(const char *name, const options *asked)
+{
+    outcome ran = {.name = name, .marking = (uint32_t)asked->marking};
+    size_t length;
+    uint8_t *deck = read_file(name, DECK_MOST, &length);
+    if (!deck)
+        complain(name, strerror(errno));
+    bool fine = deck && read_memory(name, &ran.memory);
+    if (fine) {
+        run_bytes(deck, length, &ran, asked);
+        if (length > DECK_MOST)
+            complain(name, "over 65,536 bytes, too long for a deck");
+    }
+    free_memory(&ran.memory);
     free(deck);
-    if (length > DECK_MOST)
-        complain(name, "over 65,536 bytes, too long for a deck");
-    return length <= DECK_MOST;
+    return fine && length <= DECK_MOST;
 }
 
 static int usage(void)
@@ -71,13 +66,15 @@ static int usage(void)
     fputs("usage: bench [--quiet] [--marking NUMBER] DECK...\n"
           "       bench --trace [--from N] [--to M] [--marking NUMBER] DECK...\n"
           "Runs each deck and shows the answer, every attempt's request, and the state before and after.\n"
+          "NAME.deck is run with the memory in NAME.memory on its bus, if that file is there.\n"
           "Values are hexadecimal; answers, counts and the numbers of attempts are decimal.\n"
           "  --quiet            one line for each deck: answer, attempts, microcycles, LC and flag byte\n"
           "  --trace            of every attempt its word, how it ended, its request and what it changed\n"
           "  --from N, --to M   only of these attempts, counted from 1\n"
           "  --marking NUMBER   of the control chip: 1661 for CP1661B, which is the default, or 1621 for\n"
           "                     CP1621B, which has Q1. The engine answers any other with 24.\n"
-          "Status 0: all decks were run, refused or not. 1: a file cannot be read or is too long. 2: usage.\n",
+          "Status 0: all decks were run, refused or not. 1: a file cannot be read, is too long, or too short\n"
+          "for a memory. 2: usage.\n",
           stderr);
     return 2;
 }

@@ -1,6 +1,6 @@
-/* The engine's interface: it runs a deck of MCP-1600 microcode, one attempt for each line sample. The assembler
-   and the lister, which turn a typed listing into words and words into a listing, come after it, and the check
-   of the service profile is at the end.
+/* The engine's interface: it runs a deck of MCP-1600 microcode, one attempt for each line sample, alone or with a
+   memory on the bus. The assembler and the lister, which turn a typed listing into words and words into a listing,
+   come after it, and the check of the service profile is at the end.
 
    A DECK is at most 65,536 bytes: four sections in this order, each after its count of two bytes.
    All numbers have their low byte first. An unused bit that is set makes its item out of range.
@@ -46,8 +46,9 @@ enum { DECK_MOST = 65536, WORD_BYTES = 4, ROW_BYTES = 16, STATE_BYTES = 42, SAMP
    together). */
 enum { MARKING_CP1661B = 1661, MARKING_CP1621B = 1621 };
 
-/* The answers. Of several that apply the first in this order is given: 9, 24, 1, 2, 3, 4, then at each
-   attempt 5, 6, 8. An attempt with RESET high or COMPUTE low is never refused. */
+/* The answers. Of several that apply the first in this order is given: 9, 24, 1, 2, 3, 4, 16, then at each
+   attempt 5, 6, 8, and 17 in the place of a wait. An attempt with RESET high or COMPUTE low is never refused.
+   16 and 17 are given by run_with_memory alone. */
 enum {
     ANSWER_DONE = 0,    /* all samples used */
     ANSWER_STATE = 1,   /* state out of range */
@@ -62,6 +63,8 @@ enum {
     ANSWER_OPTION = 8,  /* option not listed */
     ANSWER_DECK = 9,    /* deck over 65,536 bytes, state count not 1, length other than its counts say,
                            or the state buffer not STATE_BYTES bytes */
+    ANSWER_MEMORY = 16, /* memory length odd or over 65,536, or delay over 15 */
+    ANSWER_NO_REPLY = 17, /* a 33rd IB, IW, OB or OW wait in a row, the kept address beyond the memory */
     ANSWER_MARKING = 24, /* unknown marking */
 };
 
@@ -72,7 +75,7 @@ enum {
     KIND_WRITE = 2,
     KIND_READ_ACKNOWLEDGE = 3,
     KIND_WRITE_ACKNOWLEDGE = 4,
-    KIND_DATA_IN = 5,     /* the sample's data */
+    KIND_DATA_IN = 5,     /* the sample's data; with a memory on the bus, its word */
     KIND_WORD_OUT = 6,    /* 6-8: Rb:Ra */
     KIND_BYTE_OUT = 7,
     KIND_STATUS_OUT = 8,
@@ -115,6 +118,50 @@ typedef struct {
    one run. */
 report run(const uint8_t *deck, size_t deck_len, uint8_t *requests, size_t requests_len,
            uint8_t *state, size_t state_len, uint32_t marking);
+
+/* A MEMORY ON THE BUS: up to 65,536 bytes, the byte of address i at place i. A word's low byte is at the even
+   address; who reads or writes one ignores the lowest bit of its address.
+
+   It keeps the address of the last read or write that was accepted (requests of kinds 1-4, acknowledges too). A run
+   starts with none kept, whatever SYNC is in its state; RESET drops SYNC and keeps the address.
+
+     REPLY     is the memory's: high exactly if SYNC is high before the attempt, an address is kept, it is below the
+               memory's length, and the delay is over. With delay d, 0 to 15, the d attempts after the accepting one
+               see REPLY low, whatever they are; a later access starts the delay anew. So REPLY stays high, and no
+               other read or write is accepted, until IB or IW without RMW, OB, OW or RESET drops SYNC.
+     IB, IW    see the whole word at the kept address; it is the value of their request. IB chooses its byte as ever.
+     ISB, ISW  see the external data.
+     OW        stores Ra at the even address and Rb at the odd one.
+     OB        stores Ra, the lower lines, at an even kept address, and Rb, the upper ones, at an odd one.
+
+   Beyond the memory nothing replies. There 32 waits of IB, IW, OB and OW in a row are made, and a 33rd is refused
+   by 17. Any other attempt between them, RESET and COMPUTE low too, starts their count anew. With no address kept,
+   or with one below the length, waits go on without a 17. */
+enum { MEMORY_MOST = 65536, DELAY_MOST = 15 };
+
+/* Runs a deck with a memory on the bus. Its samples are the external lines: their REPLY is not used, their data are
+   seen by ISB and ISW alone, and all others are as in `run`.
+
+   memory    the bytes that the run starts with, and those that it leaves. Its length is even, MEMORY_MOST at most;
+             it may be 0.
+   delay     DELAY_MOST at most.
+   deck, requests, state and marking as for `run`. No two of the four buffers may overlap, and none may be null.
+
+     answer        attempts and          state holds            requests holds         memory holds
+                   microcycles
+     0             those of all samples  the state after them   a request for each     what the attempts
+                                                                sample                 left
+     5, 6, 8, 17   those before the      the state before the   a request for each     what the attempts
+                   refused attempt       refused attempt        attempt made; the      made left
+                                                                others are as found
+     1-4, 9, 16    0 and 0               what it held before    what it held before    what it held before
+     24            0 and 0               what it held before    what it held before    what it held before
+
+   A byte of the memory is what the last completed OB or OW to it stored, or as it was. Samples cannot be handed in
+   part by part: the memory keeps more between two attempts than a state holds. But a run over the first samples of
+   a deck does what the run over all of them does in its first attempts. */
+report run_with_memory(const uint8_t *deck, size_t deck_len, uint8_t *memory, size_t memory_len, uint32_t delay,
+                       uint8_t *requests, size_t requests_len, uint8_t *state, size_t state_len, uint32_t marking);
 
 /* A LISTING is a text of lines. Each has an address, a mnemonic, its operands in hexadecimal and its marks,
    split by spaces, and ends with a newline, which the last may lack: "003 CW 4 2 ODD RR U5". Tabs, carriage

@@ -1,4 +1,5 @@
 #include "show.h"
+#include "bus.h"
 #include "fields.h"
 #include "texts.h"
 #include "words.h"
@@ -9,7 +10,8 @@
 static bool was_run(const outcome *ran)
 {
     uint32_t answer = ran->report.answer;
-    return answer == ANSWER_DONE || (answer >= ANSWER_NO_WORD && answer <= ANSWER_OPTION);
+    return answer == ANSWER_DONE || (answer >= ANSWER_NO_WORD && answer <= ANSWER_OPTION)
+        || answer == ANSWER_NO_REPLY;
 }
 
 /* The fields that can be out of range, whole, since the state's own form would hide the unused bits. */
@@ -34,6 +36,8 @@ static void show_answer(const outcome *ran)
         printf("  deck         words %u, rows %u, samples %u\n", ran->deck.words, ran->deck.rows, ran->deck.samples);
         show_words(&ran->deck);
     }
+    if (ran->memory.before)
+        printf("  memory       length %zX, delay %X\n", ran->memory.length, ran->memory.delay);
     show_marking(ran->marking);
     printf("  answer       %u: %s", answer, answer_text(answer));
     if (was_run(ran) && answer != ANSWER_DONE)
@@ -47,11 +51,22 @@ static void show_answer(const outcome *ran)
         show_given(ran->deck.state);
 }
 
-/* The sample's data and the lines that are high. */
-static void show_sample(const uint8_t *sample)
+static const uint8_t *sample_at(const outcome *ran, size_t place)
 {
-    printf("  %04X ", number_at(sample));
-    show_lines(sample);
+    return ran->deck.sample + place * SAMPLE_BYTES;
+}
+
+/* With a memory the samples are the external lines. */
+static unsigned lines_at(const outcome *ran, size_t place)
+{
+    return lines_of(sample_at(ran, place), ran->memory.before);
+}
+
+/* The sample's data and the lines that are high. */
+static void show_sample(const outcome *ran, size_t place)
+{
+    printf("  %04X ", number_at(sample_at(ran, place)));
+    show_lines(lines_at(ran, place));
 }
 
 static void show_numbers(unsigned first, unsigned next)
@@ -75,7 +90,7 @@ static void show_request(const uint8_t *request)
 static bool same(const outcome *ran, size_t a, size_t b)
 {
     return !memcmp(ran->requests + a * REQUEST_BYTES, ran->requests + b * REQUEST_BYTES, REQUEST_BYTES)
-        && !memcmp(ran->deck.sample + a * SAMPLE_BYTES, ran->deck.sample + b * SAMPLE_BYTES, SAMPLE_BYTES);
+        && number_at(sample_at(ran, a)) == number_at(sample_at(ran, b)) && lines_at(ran, a) == lines_at(ran, b);
 }
 
 /* One line for each attempt; equal ones in a row share it, as a soak deck has thousands. */
@@ -84,18 +99,19 @@ static void show_attempts(const outcome *ran)
     unsigned made = ran->report.attempts, samples = ran->deck.samples;
     if (samples == 0)
         return;
-    puts("\n  attempt      request            value  DAL   lines high");
+    printf("\n  attempt      request            value  %s\n",
+           ran->memory.before ? "external DAL, lines high" : "DAL   lines high");
     for (unsigned first = 0, next; first < made; first = next) {
         for (next = first + 1; next < made && same(ran, first, next); next++)
             ;
         show_numbers(first, next);
         show_request(ran->requests + (size_t)first * REQUEST_BYTES);
-        show_sample(ran->deck.sample + (size_t)first * SAMPLE_BYTES);
+        show_sample(ran, first);
     }
     if (made < samples) {
         show_numbers(made, made + 1);
         printf("  %-17s       ", "refused");
-        show_sample(ran->deck.sample + (size_t)made * SAMPLE_BYTES);
+        show_sample(ran, made);
     }
     if (made + 1 < samples) {
         show_numbers(made + 1, samples);
@@ -141,9 +157,11 @@ void show(const outcome *ran, const window *traced)
     show_answer(ran);
     if (was_run(ran)) {
         if (traced)
-            show_trace(&ran->deck, ran->marking, traced);
+            show_trace(&ran->deck, &ran->memory, ran->marking, traced);
         else
             show_attempts(ran);
+        if (ran->memory.before)
+            show_memory(&ran->memory, ran->requests, ran->report.attempts);
         show_state(ran);
     }
     putchar('\n');

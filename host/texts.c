@@ -4,7 +4,8 @@
 
 #include <stdio.h>
 
-/* The causes that this host can meet: its buffers always fit, and a deck's count cannot say 65,536. */
+/* The causes that this host can meet: its buffers always fit, a deck's count cannot say 65,536, and a memory that is
+   too long is not handed in. */
 static const char *const answers[] = {
     [ANSWER_DONE] = "all samples used",
     [ANSWER_STATE] = "state out of range",
@@ -16,6 +17,8 @@ static const char *const answers[] = {
     [ANSWER_PAIR] = "no longer given",
     [ANSWER_OPTION] = "option not listed",
     [ANSWER_DECK] = "deck over 65,536 bytes, state count not 1, or length other than its counts say",
+    [ANSWER_MEMORY] = "memory length odd, or delay over 15",
+    [ANSWER_NO_REPLY] = "32 waits, address beyond memory",
     [ANSWER_MARKING] = "unknown marking",
 };
 
@@ -69,17 +72,25 @@ void write_numbers(char text[NUMBERS_ROOM], unsigned first, unsigned next)
         snprintf(text, NUMBERS_ROOM, "%u-%u", first + 1, next);
 }
 
-void show_lines(const uint8_t *sample)
+enum { REPLY = 0, BUSY = 1, COMPUTE = 2, RESET = 3, ICS = 4, I0 = 8 }; /* bits of a sample's lines */
+
+unsigned lines_of(const uint8_t *sample, bool external)
+{
+    unsigned lines = number_at(sample + 2);
+    return external ? lines & ~(1u << REPLY) : lines;
+}
+
+void show_lines(unsigned lines)
 {
     static const struct {
         const char *name;
-        unsigned at, bit;
-    } lines[] = {{"COMPUTE", 2, 2}, {"REPLY", 2, 0}, {"BUSY", 2, 1}, {"RESET", 2, 3}, {"ICS", 2, 4},
-                 {"I0", 3, 0},      {"I1", 3, 1},    {"I2", 3, 2},   {"I3", 3, 3}};
-    if (sample[2] == 0 && sample[3] == 0)
+        unsigned bit;
+    } names[] = {{"COMPUTE", COMPUTE}, {"REPLY", REPLY}, {"BUSY", BUSY},  {"RESET", RESET}, {"ICS", ICS},
+                 {"I0", I0},           {"I1", I0 + 1},   {"I2", I0 + 2}, {"I3", I0 + 3}};
+    if (!lines)
         printf(" -");
-    for (size_t i = 0; i < sizeof lines / sizeof *lines; i++)
-        if (sample[lines[i].at] >> lines[i].bit & 1)
-            printf(" %s", lines[i].name);
+    for (size_t i = 0; i < sizeof names / sizeof *names; i++)
+        if (lines >> names[i].bit & 1)
+            printf(" %s", names[i].name);
     putchar('\n');
 }

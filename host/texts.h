@@ -20,7 +20,10 @@ bool has_value(const uint8_t *request);
 enum { NUMBERS_ROOM = 24 };
 void write_numbers(char text[NUMBERS_ROOM], unsigned first, unsigned next);
 
-/* Ends a line with the sample's lines that are high, a space before each. */
-void show_lines(const uint8_t *sample);
+/* The sample's lines, its last two bytes. External ones, as with a memory, are without REPLY, which is not used. */
+unsigned lines_of(const uint8_t *sample, bool external);
+
+/* Ends a line with the lines that are high, a space before each. */
+void show_lines(unsigned lines);
 
 #endif

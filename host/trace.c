@@ -1,4 +1,5 @@
 #include "trace.h"
+#include "bus.h"
 #include "cut.h"
 #include "fields.h"
 #include "progress.h"
@@ -77,6 +78,15 @@ static void show_changes(const uint8_t *before, const uint8_t *after)
         putchar('\n');
 }
 
+/* The attempt's sample, or with a memory the external lines. */
+static void show_sample(const cut *of, unsigned place)
+{
+    const uint8_t *sample = of->deck->sample + place * (size_t)SAMPLE_BYTES;
+    bool external = of->start->before;
+    printf("%*s%s %04X", INDENT, "", external ? "external" : "sample", number_at(sample));
+    show_lines(lines_of(sample, external));
+}
+
 /* Runs the next sample and shows its attempt. The result is the engine's answer. */
 static uint32_t show_attempt(cut *of)
 {
@@ -88,9 +98,9 @@ static uint32_t show_attempt(cut *of)
         printf("  %-11s  %u: %s\n", "refused", made.answer, answer_text(made.answer));
     else
         show_made(&made, of->requests + place * (size_t)REQUEST_BYTES);
-    const uint8_t *sample = of->deck->sample + place * (size_t)SAMPLE_BYTES;
-    printf("%*ssample %04X", INDENT, "", number_at(sample));
-    show_lines(sample);
+    show_sample(of, place);
+    if (of->start->before && !made.answer)
+        show_access(&of->memory, of->requests, place, INDENT);
     show_changes(of->before, of->after);
     return made.answer;
 }
@@ -112,14 +122,14 @@ static void show_window(cut *of, unsigned first, unsigned next)
     }
 }
 
-void show_trace(const sections *deck, uint32_t marking, const window *asked)
+void show_trace(const sections *deck, const bus_memory *memory, uint32_t marking, const window *asked)
 {
     if (asked->from > deck->samples) {
         printf("\n  none of the attempts from %u on: the deck has %u samples\n", asked->from, deck->samples);
         return;
     }
     show_head();
-    cut of = begin_cut(deck, marking);
+    cut of = begin_cut(deck, memory, marking);
     show_window(&of, asked->from - 1, asked->to < deck->samples ? asked->to : deck->samples);
     end_cut(&of);
 }

@@ -72,18 +72,18 @@ static left run_once(const call *made, bool at_end)
     return ran;
 }
 
-static void check_requests(const left *ran)
+void check_requests(const uint8_t *requests, uint32_t attempts)
 {
-    for (uint32_t i = 0; i < ran->is.attempts; i++) {
-        const uint8_t *request = ran->requests + (size_t)i * REQUEST_BYTES;
+    for (uint32_t i = 0; i < attempts; i++) {
+        const uint8_t *request = requests + (size_t)i * REQUEST_BYTES;
         unsigned kind = number_at(request + 2), value = number_at(request);
         expect(kind < KINDS, "a request is of a kind that exists");
         expect(value == 0 || (kind != KIND_NONE && kind < KIND_WAIT), "kinds 0 and 10-12 have value 0");
     }
 }
 
-/* The state handed back is in range: a deck of it alone, without samples, is run and hands it back. */
-static void check_state(const uint8_t *state)
+/* A deck of it alone, without samples, is run and hands it back. */
+void check_state(const uint8_t *state)
 {
     uint8_t deck[2 + 2 + 2 + STATE_BYTES + 2] = {0, 0, 0, 0, 1}, requests[1], again[STATE_BYTES];
     memcpy(deck + 6, state, STATE_BYTES);
@@ -92,17 +92,22 @@ static void check_state(const uint8_t *state)
     expect(!memcmp(again, state, STATE_BYTES), "without samples the state stays");
 }
 
+void check_counts(const call *made, bool refused, report is)
+{
+    expect(refused ? is.attempts < made->has.samples : is.attempts == made->has.samples,
+           "attempts are the samples, or fewer when one is refused");
+    expect(is.microcycles >= is.attempts && is.microcycles <= 2 * is.attempts, "an attempt costs 1 or 2");
+}
+
 /* due is the refusal that the call has to get, or 0. */
-static void check_counts(const call *made, unsigned due, report is)
+static void check_answer(const call *made, unsigned due, report is)
 {
     bool refused = is.answer == ANSWER_NO_WORD || is.answer == ANSWER_CODE || is.answer == ANSWER_OPTION;
     expect(due ? is.answer == due : is.answer == ANSWER_DONE || refused, "the answer is the one of the papers");
     if (due)
         expect(is.attempts == 0 && is.microcycles == 0, "nothing was attempted");
     else
-        expect(refused ? is.attempts < made->has.samples : is.attempts == made->has.samples,
-               "attempts are the samples, or fewer when one is refused");
-    expect(is.microcycles >= is.attempts && is.microcycles <= 2 * is.attempts, "an attempt costs 1 or 2");
+        check_counts(made, refused, is);
 }
 
 /* With the other marking the same comes of it, but that CP1621B may let SYNC and IACK fall. */
@@ -126,7 +131,7 @@ void check(const call *made)
     for (unsigned at_end = 0; at_end < 2; at_end++) {
         left *it = &ran[at_end];
         *it = run_once(made, at_end);
-        check_counts(made, due, it->is);
+        check_answer(made, due, it->is);
         size_t written = it->is.attempts * (size_t)REQUEST_BYTES;
         expect(filled(it->requests + written, it->requests + made->requests_len, fills[at_end]),
                "places without an attempt are untouched");
@@ -139,7 +144,7 @@ void check(const call *made)
     if (due)
         return;
     expect(!memcmp(ran[0].state, ran[1].state, STATE_BYTES), "the same call leaves the same state");
-    check_requests(&ran[0]);
+    check_requests(ran[0].requests, ran[0].is.attempts);
     check_state(ran[0].state);
     check_marking(made, &ran[0]);
 }

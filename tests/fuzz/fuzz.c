@@ -1,5 +1,5 @@
-/* The fuzzer's entry: each input is a call of the engine, held to the papers, and a deck for the bench host; or a call of the
-   assembler, or of the lister and the check of the service profile. */
+/* The fuzzer's entry: each input is a call of the engine, without and with a memory, held to the papers, and a deck for the bench
+   host; or a call of the assembler, or of the lister and the check of the service profile. */
 #define _GNU_SOURCE
 #include "call.h"
 
@@ -56,6 +56,7 @@ int LLVMFuzzerTestOneInput(const uint8_t *bytes, size_t length)
     }
     call made = shape(bytes, length);
     check(&made);
+    check_memory(&made);
     bench(&made);
     return 0;
 }

@@ -1,6 +1,6 @@
-/* Which instructions of the libraries were reached, the engine's, the listings' and the profile's. They are fuzzed as they were
-   compiled, without a compiler's counters: each of their instructions gets a trap in memory, which is taken away when it is
-   first met. */
+/* Which instructions of the libraries were reached, the engine's, the listings', the profile's and the memory's. They are fuzzed
+   as they were compiled, without a compiler's counters: each of their instructions gets a trap in memory, which is taken away
+   when it is first met. */
 #define _GNU_SOURCE
 #include "call.h"
 
@@ -11,7 +11,7 @@
 #include <ucontext.h>
 
 enum { MOST = 16384, SPAN = 131072, PAGE = 4096, TRAP = 0xCC };
-enum { ENGINE, LISTINGS, PROFILE, LIBRARIES };
+enum { ENGINE, LISTINGS, PROFILE, MEMORY, LIBRARIES };
 
 /* The fuzzer looks here after each input. */
 __attribute__((section("__libfuzzer_extra_counters"))) static uint8_t counters[MOST];
@@ -51,8 +51,8 @@ static void set(uintptr_t address, unsigned library)
 
 static void tell(void)
 {
-    dprintf(said, "reached %u of the engine\nreached %u of the listings\nreached %u of the profile\n", reached[ENGINE],
-            reached[LISTINGS], reached[PROFILE]);
+    dprintf(said, "reached %u of the engine\nreached %u of the listings\nreached %u of the profile\nreached %u of the memory\n",
+            reached[ENGINE], reached[LISTINGS], reached[PROFILE], reached[MEMORY]);
 }
 
 /* The environment's POINTS lists the instructions' addresses, each with its library. */

@@ -1,9 +1,10 @@
-/* Calls from a fuzzer's bytes: seven that say how the call is made, then the deck.
+/* Calls from a fuzzer's bytes: nine that say how the call is made, then the deck.
 
      0    see the enum         1    bytes that the request buffer has more than the samples need, signed
      2    bytes of the state buffer
      3    the section to stretch, 0 words, 1 rows, 2 samples      4-5    to this many items
      6    the marking: even CP1661B, odd CP1621B; from UNKNOWN on with a bit turned
+     7    the memory's delay; from UNKNOWN on one over            8    its length, mostly short
 
    A bit flipped anywhere in a deck is mostly a refusal. So the deck is mended unless RAW is set: a section has
    what the bytes are enough for, and no unused bit. A whole deck in range stays as it is. */
@@ -12,7 +13,7 @@
 #include <string.h>
 
 /* What takes long has more bits, all of which are to be set. */
-enum { RAW = 1, OTHER_REQUESTS = 2, OTHER_STATE = 4, STRETCH = 0x38, SHOWN = 0xC0, UNKNOWN = 0xE0, HEAD = 7 };
+enum { RAW = 1, OTHER_REQUESTS = 2, OTHER_STATE = 4, STRETCH = 0x38, SHOWN = 0xC0, UNKNOWN = 0xE0, HEAD = 9 };
 enum { WORDS, ROWS, STATE, SAMPLES, SECTIONS };
 enum { STRETCH_MOST = DECK_MOST + 4 };
 
@@ -101,13 +102,27 @@ static uint32_t marking(uint8_t by)
     return by < UNKNOWN ? known : known ^ (uint32_t)1 << by % 32;
 }
 
+static uint32_t delay(uint8_t by)
+{
+    return by < UNKNOWN ? by % (DELAY_MOST + 1) : (uint32_t)(DELAY_MOST + 1) << by % 28;
+}
+
+/* Even ones, seldom odd ones, those about the most. */
+static size_t memory_length(uint8_t by)
+{
+    if (by < UNKNOWN)
+        return 2 * (size_t)by;
+    return by % 2 ? by : (size_t)MEMORY_MOST + by % 8 / 2 - 1;
+}
+
 call shape(const uint8_t *bytes, size_t length)
 {
     static uint8_t deck[DECK_ROOM];
     material from = {bytes, length < DECK_MOST ? length : DECK_MOST};
     uint8_t head[HEAD];
     take(&from, head, HEAD);
-    call made = {.deck = deck, .deck_len = from.left, .state_len = STATE_BYTES, .marking = marking(head[6]), .shown = set(head, SHOWN)};
+    call made = {.deck = deck, .deck_len = from.left, .state_len = STATE_BYTES, .memory_len = memory_length(head[8]),
+                 .marking = marking(head[6]), .delay = delay(head[7]), .shown = set(head, SHOWN)};
     if (set(head, RAW))
         memcpy(deck, from.at, from.left);
     else

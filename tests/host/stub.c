@@ -1,7 +1,8 @@
 /* In the place of engine and lister where a memory checker cannot run programs for its processor. The engine gives the answer in the
    environment's ANSWER, whatever the marking: an attempt for each sample, and where attempts are refused only 18, with every
    kind of request in turn and one that does not exist, and a state of ones but for LC, which counts the attempts. It goes on from the
-   deck's LC, and without an attempt leaves the deck's state, so that a deck can be cut. */
+   deck's LC, and without an attempt leaves the deck's state, so that a deck can be cut. With a memory, each output adds 1 to the byte
+   at the address of the last access. */
 #include "../../host/chuenphrao.h"
 #include "../../host/deck.h"
 
@@ -30,7 +31,7 @@ report run(const uint8_t *deck, size_t deck_len, uint8_t *requests, size_t reque
         all ^= deck[i]; /* each byte handed in can be read */
     for (size_t i = 0; i < requests_len; i++)
         all ^= requests[i];
-    if (answer >= ANSWER_DECK || (answer && answer < ANSWER_NO_WORD))
+    if (answer != ANSWER_NO_REPLY && (answer >= ANSWER_DECK || (answer && answer < ANSWER_NO_WORD)))
         return (report){.answer = answer};
     sections has;
     unsigned before = find_sections(deck, deck_len, &has) ? number_at(has.state + LC) : 0;
@@ -45,6 +46,26 @@ report run(const uint8_t *deck, size_t deck_len, uint8_t *requests, size_t reque
         memcpy(state, has.state, state_len);
     }
     return (report){.answer = attempts < has.samples ? answer : 0, .attempts = attempts, .microcycles = 2 * attempts};
+}
+
+report run_with_memory(const uint8_t *deck, size_t deck_len, uint8_t *memory, size_t memory_len, uint32_t delay,
+                       uint8_t *requests, size_t requests_len, uint8_t *state, size_t state_len, uint32_t marking)
+{
+    (void)delay;
+    volatile uint8_t all = 0;
+    for (size_t i = 0; i < memory_len; i++)
+        all ^= memory[i];
+    report made = run(deck, deck_len, requests, requests_len, state, state_len, marking);
+    size_t kept = memory_len;
+    for (unsigned i = 0; i < made.attempts; i++) {
+        const uint8_t *request = requests + (size_t)i * REQUEST_BYTES;
+        unsigned kind = request[2];
+        if (kind >= KIND_READ && kind <= KIND_WRITE_ACKNOWLEDGE)
+            kept = number_at(request);
+        if ((kind == KIND_WORD_OUT || kind == KIND_BYTE_OUT) && kept < memory_len)
+            memory[kept]++;
+    }
+    return made;
 }
 
 /* A line with each word's address. Of four words it refuses two, one with 2 and one with 6, until they are NOP; with UNLISTED in

@@ -1,6 +1,6 @@
-/* How much stack `run`, `assemble`, `list_words` and `profile` take. Each is called on a stack of its own, painted before, and the
-   deepest byte that it changed tells: stack BOUND. Each kind of deck, a listing there and back, and its words' profile have
-   to get their answer and take less than BOUND bytes. */
+/* How much stack `run`, `run_with_memory`, `assemble`, `list_words` and `profile` take. Each is called on a stack of its own,
+   painted before, and the deepest byte that it changed tells: stack BOUND. Each kind of deck without a memory and with one, a
+   listing there and back, and its words' profile have to get their answer and take less than BOUND bytes. */
 #define _DEFAULT_SOURCE
 #include "../../host/chuenphrao.h"
 
@@ -12,18 +12,19 @@
 #include <ucontext.h>
 
 enum { ROOM = 1 << 20, PAGE = 4096, CODES = 256 };
-enum { REPLY = 1, COMPUTE = 4, RESET = 8, LTSR = 4, JUMP_TO_0 = 0, NOP = 0xFF00 };
+enum { REPLY = 1, COMPUTE = 4, RESET = 8, LTSR = 4, JUMP_TO_0 = 0, NOP = 0xFF00, READ = 0xF842 };
 
-/* Words, rows and samples are all alike: rows match always, and raise these lines; of a sample's lines these are not as in one
-   with COMPUTE alone. TR has Q1 true, and the marking is CP1621B where no other is given. */
+/* Words, but for the first where it is given, rows and samples are all alike: rows match always, and raise these lines; of a
+   sample's lines these are not as in one with COMPUTE alone. TR has Q1 true, and the marking is CP1621B where no other is
+   given. */
 typedef struct {
     const char *name;
     uint32_t answer;
-    unsigned words, word, rows, raised, more_states, g, outputs, samples, lines, places_missing, marking;
+    unsigned words, first, word, rows, raised, more_states, g, outputs, samples, lines, places_missing, marking, memory_len;
 } kind;
 
-static uint8_t deck[2 * DECK_MOST], requests[DECK_MOST], state[STATE_BYTES];
-static size_t deck_len, requests_len;
+static uint8_t deck[2 * DECK_MOST], requests[DECK_MOST], state[STATE_BYTES], memory[MEMORY_MOST];
+static size_t deck_len, requests_len, memory_len;
 static uint32_t marking;
 static uint8_t *room, paint;
 static size_t taken;
@@ -41,7 +42,7 @@ static void make(const kind *of)
     deck_len = 0;
     put(of->words, 2);
     for (unsigned i = 0; i < of->words; i++)
-        put(of->word, WORD_BYTES);
+        put(i == 0 && of->first ? of->first : of->word, WORD_BYTES);
     put(of->rows, 2);
     for (unsigned i = 0; i < of->rows; i++, deck_len += ROW_BYTES) {
         memset(deck + deck_len, 0, ROW_BYTES);
@@ -59,11 +60,17 @@ static void make(const kind *of)
         put((of->lines ^ COMPUTE) << 16, SAMPLE_BYTES);
     requests_len = (of->samples - of->places_missing) * (size_t)REQUEST_BYTES;
     marking = of->marking ? of->marking : MARKING_CP1621B;
+    memory_len = of->memory_len;
 }
 
 static void run_deck(void)
 {
     is = run(deck, deck_len, requests, requests_len, state, sizeof state, marking);
+}
+
+static void run_with_a_memory(void)
+{
+    is = run_with_memory(deck, deck_len, memory, memory_len, 1, requests, requests_len, state, sizeof state, marking);
 }
 
 static void (*work)(void) = run_deck;
@@ -179,6 +186,15 @@ static const kind kinds[] = {
     {.name = "deck too long", .answer = 9, .rows = 1, .samples = 16371},
 };
 
+/* With a memory only. */
+static const kind of_memory[] = {
+    {.name = "inputs", .words = 2048, .first = READ, .word = 0xE242, .samples = 2048, .marking = MARKING_CP1661B,
+     .memory_len = MEMORY_MOST},
+    {.name = "an output", .words = 2048, .first = READ, .word = 0xFD42, .rows = 128, .samples = 2048, .memory_len = 2},
+    {.name = "memory length odd", .answer = 16, .words = 1, .samples = 1, .memory_len = 1},
+    {.name = "no reply", .answer = 17, .words = 2, .first = READ, .word = 0xFC42, .samples = 40},
+};
+
 static unsigned passed, failed;
 
 static void hold(bool fine)
@@ -198,6 +214,13 @@ int main(int count, char **words)
         return 2;
     for (size_t i = 0; i < sizeof kinds / sizeof *kinds; i++)
         hold(fits(&kinds[i], bound));
+    hold(codes_fit(bound));
+    puts("with a memory:");
+    work = run_with_a_memory;
+    for (size_t i = 0; i < sizeof kinds / sizeof *kinds; i++)
+        hold(fits(&kinds[i], bound));
+    for (size_t i = 0; i < sizeof of_memory / sizeof *of_memory; i++)
+        hold(fits(&of_memory[i], bound));
     hold(codes_fit(bound));
     hold(part_fits("2,048 lines listed", list, bound));
     hold(part_fits("2,048 lines assembled", assemble_again, bound));

@@ -44,7 +44,7 @@ def deck(lines):
 def wrong(make, readable, lines):
     """What is wrong with a vector, or nothing."""
     try:
-        same = make.made_from(readable) == deck(lines)
+        same = make.made_from(readable) == (deck(lines), None)
     except (make.Refused, ValueError, IndexError) as error:
         return str(error)
     return None if same else "the readable part makes another deck than the bytes"

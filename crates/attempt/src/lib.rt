@@ -336,7 +336,7 @@ fn reset(core: Core) -> Core
 }
 
 // The waiting modification is ORed into the low 16 bits.
-fn modified(word: u32, l: Latches) -> u32
+pub fn modified(word: u32, l: Latches) -> u32
     ensures { λ r. ⌜ r ≡ modifiedOf word l ⌝ }
 {
     if l.marked {

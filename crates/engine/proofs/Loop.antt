@@ -30,13 +30,13 @@ use Rattle.engine.specs.RunEnds.{runEnd, worldOf, goingOf, unseen, lentR
 use Rattle.engine.specs.declared.RunEnd.{RunEnd}
 
 -- the samples that are left, before and after one of them
-samples-step : (s : List ℕ) (i n : ℕ) → i < n → samplesFrom s i (n - i) ≡ sampleAt s i ∷ samplesFrom s (i + 1) (n - (i + 1))
+pub samples-step : (s : List ℕ) (i n : ℕ) → i < n → samplesFrom s i (n - i) ≡ sampleAt s i ∷ samplesFrom s (i + 1) (n - (i + 1))
 unfolding samplesFrom
 samples-step s i n l =
     let e : n - i ≡ suc (n - (i + 1)) = omega arith in
     rw (e, add-one i)
 
-samples-end : (s : List ℕ) (i n : ℕ) → n ≤ i → samplesFrom s i (n - i) ≡ []
+pub samples-end : (s : List ℕ) (i n : ℕ) → n ≤ i → samplesFrom s i (n - i) ≡ []
 unfolding samplesFrom
 samples-end s i n l =
     let e : n - i ≡ 0 = omega arith in
@@ -47,16 +47,16 @@ abbrev pub leftBy : List ℕ → List ℕ → List Packed → List Sample → Wo
 leftBy codes ws ps ss w = pick (eqb (w .answer) 0) (runBy codes ws ps ss w) w
 
 -- where a test holds, the one or the other
-where-true : (t : Bool) (x y w : World) → (t ≡ true → x ≡ y) → pick t x w ≡ pick t y w
+pub where-true : {A : Type 0} (t : Bool) (x y w : A) → (t ≡ true → x ≡ y) → pick t x w ≡ pick t y w
 where-true true x y w same = same refl
 where-true false x y w same = refl
 
-at-most : (t : Bool) (x y : ℕ) → (t ≡ true → x ≤ y) → pick t x 0 ≤ y
+pub at-most : (t : Bool) (x y : ℕ) → (t ≡ true → x ≤ y) → pick t x 0 ≤ y
 at-most true x y most = most refl
 at-most false x y most = zero-le
 
 -- where two tests do not both hold, and the second one's failing makes the choices alike
-over : (t u : Bool) (x w : World) → (t && u) ≡ false → (u ≡ false → x ≡ w) → pick t x w ≡ w
+pub over : {A : Type 0} (t u : Bool) (x w : A) → (t && u) ≡ false → (u ≡ false → x ≡ w) → pick t x w ≡ w
 over true u x w e same = same e
 over false u x w e same = refl
 
@@ -103,7 +103,7 @@ unlooked-by : (t : Bool) (m : ℕ) (ps : List Packed) (i : Inputs) → (t ≡ tr
 unlooked-by true m ps i none = rw (none refl) (packed-none unseen ∙ sym (packed-none i))
 unlooked-by false m ps i none = refl
 
-unlooked : (m : ℕ) (ps : List Packed) (ws : List ℕ) (k : Core) (s : Sample) → scanIn (take m ps) (inputsFor m ws k s) ≡ scanIn (take m ps) (inputsBy ws k s)
+pub unlooked : (m : ℕ) (ps : List Packed) (ws : List ℕ) (k : Core) (s : Sample) → scanIn (take m ps) (inputsFor m ws k s) ≡ scanIn (take m ps) (inputsBy ws k s)
 unfolding inputsFor
 unlooked m ps ws k s = unlooked-by (eqb m 0) m ps (inputsBy ws k s) (eqb-true m 0)
 
@@ -111,7 +111,7 @@ unlooked m ps ws k s = unlooked-by (eqb m 0) m ps (inputsBy ws k s) (eqb-true m 
 abbrev pub measure : ℕ → RunEnd → ℕ
 measure n at = pick (eqb (at .answer) 0) (n - at .attempts) 0
 
-going : (n : ℕ) (at : RunEnd) → goingOf at n ≡ true → (eqb (at .answer) 0 ≡ true) × (ltb (at .attempts) n ≡ true)
+pub going : (n : ℕ) (at : RunEnd) → goingOf at n ≡ true → (eqb (at .answer) 0 ≡ true) × (ltb (at .attempts) n ≡ true)
 going n at g = and-eq-true-iff (eqb (at .answer) 0) (ltb (at .attempts) n) .0 g
 
 -- the loop goes on only while a sample is left

@@ -29,7 +29,7 @@ pub struct RunEnd {
     pub microcycles: u32,
 }
 
-fn run_end(core: Core, answer: u8, attempts: usize, microcycles: u32) -> RunEnd
+pub fn run_end(core: Core, answer: u8, attempts: usize, microcycles: u32) -> RunEnd
     ensures { λ r. ⌜ r ≡ runEnd core answer attempts microcycles ⌝ }
 {
     RunEnd {
@@ -53,7 +53,7 @@ fn sample(samples: &[u8], i: usize) -> Sample
 }
 
 // No attempt was refused, and of n samples one is left.
-fn going(at: RunEnd, n: usize) -> bool
+pub fn going(at: RunEnd, n: usize) -> bool
     ensures { λ r. ⌜ r ≡ goingOf at n ⌝ }
 {
     (at.answer == 0) & (at.attempts < n)

@@ -1,4 +1,4 @@
-mod Steps
+pub mod Steps
 pub mod Lent
 pub mod Laws
 pub mod Order

@@ -60,7 +60,7 @@ fn side_by_side(lc: u16, rni: u8, tr: u8, tsr: u8, interrupts: u8) -> u32
         + 0x20_0000 * (tr as u32)
 }
 
-fn key(i: Inputs) -> u32
+pub fn key(i: Inputs) -> u32
     ensures { λ r. ⌜ r ≡ keyOf i ⌝ }
 {
     side_by_side(i.lc, i.rni, i.tr, i.tsr, i.interrupts)
@@ -118,7 +118,7 @@ pub fn none() -> Outputs
 }
 
 // Outputs as a packed row holds them, each by itself again.
-fn unpacked(o: u32) -> Outputs
+pub fn unpacked(o: u32) -> Outputs
     ensures { λ r. ⌜ r ≡ outputsIn o ⌝ }
 {
     Outputs {

@@ -34,7 +34,7 @@ run-is : (deck requests : List ℕ) (marking : ℕ) → rowsPart deck ≡ [] →
 unfolding deckRun rowsOf
 run-is deck requests marking e = rw e
 
-computing-length : (ss : List Sample) (is : List ℕ) → Computing ss is → length ss ≡ length is
+pub computing-length : (ss : List Sample) (is : List ℕ) → Computing ss is → length ss ≡ length is
 computing-length [] [] c = refl
 computing-length [] (i ∷ is) c = absurd c
 computing-length (s ∷ ss) [] c = absurd c

@@ -44,7 +44,7 @@ module _ (sign : Sign) (cut : Cut) (ws : List ℕ) (ss : List Sample) (v : World
 -- ---- back again, with the same registers cut in any two ways
 
 -- what is known of the first cut's registers is known of the second's
-fair-back : (there back : Cut) → TwoCuts there back → Fair back
+pub fair-back : (there back : Cut) → TwoCuts there back → Fair back
 fair-back there back two =
     record {
       some = rw (two .same-targets) at (two .fair .some);

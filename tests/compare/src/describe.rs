@@ -93,8 +93,9 @@ fn damage(bits: u32) -> String {
         "around the requests",
         "around the state",
         "the deck",
+        "around the memory",
     ];
-    let touched = (0..4).filter(|at| bits >> at & 1 == 1);
+    let touched = (0..5).filter(|at| bits >> at & 1 == 1);
     let touched: Vec<&str> = touched.map(|at| names[at]).collect();
     match touched.is_empty() {
         true => "nothing".to_string(),

@@ -14,4 +14,5 @@ pub mod fields;
 pub mod flags;
 pub mod lines;
 pub mod listing;
+pub mod memory;
 pub mod tally;

@@ -17,7 +17,7 @@ pub enum Outcome {
         /// What it cost.
         microcycles: u32,
     },
-    /// It is refused with number 5, 6 or 8, and the state is as it was.
+    /// It is refused with number 5, 6 or 8, or with a memory 17, and the state is as it was.
     Refused(u8),
 }
 
@@ -40,11 +40,10 @@ pub fn attempt(
     if !sample.compute {
         return idle(12);
     }
-    let stored = match words.get(usize::from(state.lc)) {
-        Some(&stored) => stored,
+    let word = match taken(words, state) {
+        Some(word) => word,
         None => return Outcome::Refused(5),
     };
-    let word = stored | u32::from(state.modification.unwrap_or(0));
     let code = CODES[usize::from((word >> 8) as u8)];
     if code.cycles == 0 {
         return Outcome::Refused(6);
@@ -59,6 +58,13 @@ pub fn attempt(
         request: perform(word, rows, state, sample, marking),
         microcycles: u32::from(code.cycles),
     }
+}
+
+/// The word at LC with the waiting modification ORed in, if there is one.
+#[inline]
+pub(crate) fn taken(words: &[u32], state: &State) -> Option<u32> {
+    let stored = words.get(usize::from(state.lc))?;
+    Some(stored | u32::from(state.modification.unwrap_or(0)))
 }
 
 /// An attempt that executes no word.

@@ -24,11 +24,11 @@ pub struct Report {
 }
 
 /// A deck whose four sections are in range, and the marking of its run.
-struct Deck<'a> {
+pub(crate) struct Deck<'a> {
     marking: Marking,
-    words: Vec<u32>,
+    pub(crate) words: Vec<u32>,
     rows: Vec<Row>,
-    state: State,
+    pub(crate) state: State,
     /// Four bytes each.
     samples: &'a [u8],
 }
@@ -46,43 +46,75 @@ struct Sections<'a> {
 /// The request of attempt `i` is written at place `i` of `requests`, four bytes low first. After
 /// answers 0, 5, 6 and 8 `state` holds the state; after 9, 24 and 1-4 both buffers are untouched.
 pub fn run(deck: &[u8], requests: &mut [u8], state: &mut [u8], marking: u32) -> Report {
-    let mut report = Report {
-        answer: 0,
-        attempts: 0,
-        microcycles: 0,
-    };
-    let opened = match <&mut [u8; STATE_BYTES]>::try_from(state) {
-        Ok(returned) => open(deck, requests.len() / 4, marking).map(|deck| (deck, returned)),
-        Err(_) => Err(9),
-    };
-    let (mut deck, returned) = match opened {
-        Ok(opened) => opened,
-        Err(answer) => return Report { answer, ..report },
-    };
-    for (place, sample) in requests.chunks_exact_mut(4).zip(items(deck.samples)) {
-        match attempt(
-            &deck.words,
-            &deck.rows,
-            &mut deck.state,
-            Sample::decode(sample),
-            deck.marking,
-        ) {
-            Outcome::Done {
-                request,
-                microcycles,
-            } => {
-                place.copy_from_slice(&request.to_le_bytes());
-                report.attempts += 1;
-                report.microcycles += microcycles;
-            }
-            Outcome::Refused(answer) => {
-                report.answer = answer.into();
-                break;
-            }
+    match opened(deck, requests, state, marking) {
+        Ok((mut deck, returned)) => deck.attempts(requests, returned, Deck::attempt),
+        Err(answer) => Report::refused(answer),
+    }
+}
+
+impl Report {
+    /// The deck is refused as a whole.
+    pub(crate) fn refused(answer: u32) -> Self {
+        Self {
+            answer,
+            attempts: 0,
+            microcycles: 0,
         }
     }
-    *returned = deck.state.to_bytes();
-    report
+}
+
+impl Deck<'_> {
+    /// One attempt with these lines.
+    #[inline]
+    pub(crate) fn attempt(&mut self, lines: Sample) -> Outcome {
+        attempt(
+            &self.words,
+            &self.rows,
+            &mut self.state,
+            lines,
+            self.marking,
+        )
+    }
+
+    /// One attempt for each sample until all are used or one is refused.
+    #[inline]
+    pub(crate) fn attempts(
+        &mut self,
+        requests: &mut [u8],
+        returned: &mut [u8; STATE_BYTES],
+        mut attempt: impl FnMut(&mut Self, Sample) -> Outcome,
+    ) -> Report {
+        let mut report = Report::refused(0);
+        for (place, sample) in requests.chunks_exact_mut(4).zip(items(self.samples)) {
+            match attempt(self, Sample::decode(sample)) {
+                Outcome::Done {
+                    request,
+                    microcycles,
+                } => {
+                    place.copy_from_slice(&request.to_le_bytes());
+                    report.attempts += 1;
+                    report.microcycles += microcycles;
+                }
+                Outcome::Refused(answer) => {
+                    report.answer = answer.into();
+                    break;
+                }
+            }
+        }
+        *returned = self.state.to_bytes();
+        report
+    }
+}
+
+/// The deck and the buffer for its state, or the refusal: 9, 24, 1, 2, 3 or 4.
+pub(crate) fn opened<'a, 'b>(
+    deck: &'a [u8],
+    requests: &[u8],
+    state: &'b mut [u8],
+    marking: u32,
+) -> Result<(Deck<'a>, &'b mut [u8; STATE_BYTES]), u32> {
+    let returned = <&mut [u8; STATE_BYTES]>::try_from(state).map_err(|_| 9_u32)?;
+    Ok((open(deck, requests.len() / 4, marking)?, returned))
 }
 
 /// The deck in these bytes, or the refusal: 9, 24, 1, 2, 3 or 4, the first that applies.

@@ -1,8 +1,9 @@
 //! An independent interpreter of the MCP-1600's microinstructions: the reference that the proved
 //! engine is compared with, and the baseline of its speed.
 //!
-//! [`run`] is the bench host's entry over a deck's bytes, [`attempt`] is one attempt of it, and
-//! [`profile`] is the check of the service profile.
+//! [`run`] is the bench host's entry over a deck's bytes, [`attempt`] is one attempt of it,
+//! [`run_with_memory`] is the entry with a memory on the bus, and [`profile`] is the check of the
+//! service profile.
 //! [`decks`] makes inputs for comparison.
 
 #![forbid(unsafe_code)]
@@ -15,6 +16,7 @@ mod deck;
 pub mod decks;
 mod execute;
 mod marking;
+mod memory;
 mod profile;
 mod row;
 mod sample;
@@ -23,6 +25,7 @@ mod state;
 pub use attempt::{attempt, Outcome};
 pub use deck::{run, section, Report, DECK_LIMIT};
 pub use marking::{q1, Marking};
+pub use memory::{run_with_memory, watch, Kept, Lent, Rules, Watched, RULES};
 pub use profile::{profile, Profile};
 pub use row::Row;
 pub use sample::Sample;

@@ -26,6 +26,17 @@ impl Sample {
         Self::in_range(bytes).then(|| Self::decode(bytes))
     }
 
+    /// The sample as a deck holds it.
+    pub fn to_bytes(&self) -> [u8; 4] {
+        let lines = [self.reply, self.busy, self.compute, self.reset, self.ics];
+        let lines = lines
+            .iter()
+            .rev()
+            .fold(0, |lines, &line| lines << 1 | u8::from(line));
+        let [low, high] = self.data.to_le_bytes();
+        [low, high, lines, self.interrupts]
+    }
+
     /// No unused bit is set.
     #[inline]
     pub(crate) fn in_range(bytes: &[u8; 4]) -> bool {

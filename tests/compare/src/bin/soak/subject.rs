@@ -5,7 +5,7 @@ use compare::deck::{largest, Sections};
 use compare::describe::differences;
 use compare::driver::Asked;
 use interpreter::STATE_BYTES;
-use std::fs::File;
+use std::fs::{self, File};
 use std::io::{self, Read, Write};
 
 /// Bytes of a deck.
@@ -56,7 +56,7 @@ impl Subject {
         match read {
             Err(error) => Err(format!("{name}: {error}")),
             Ok(_) if deck.len() as u64 > MOST => Err(format!("{name}: over {MOST} bytes")),
-            Ok(_) => Self::new(name.clone(), deck),
+            Ok(_) => without_memory(name).and_then(|()| Self::new(name.clone(), deck)),
         }
     }
 
@@ -85,6 +85,18 @@ impl Subject {
             true => None,
             false => Some(unlike.join("; ")),
         }
+    }
+}
+
+/// A deck with a memory beside it, under the name where the bench host looks for one, is refused:
+/// its runs here would be others than there.
+fn without_memory(name: &str) -> Result<(), String> {
+    let memory = format!("{}.memory", name.strip_suffix(".deck").unwrap_or(name));
+    match fs::symlink_metadata(&memory) {
+        Ok(_) => Err(format!(
+            "{name}: not soaked, for {memory} is beside it: soak runs are without a memory"
+        )),
+        Err(_) => Ok(()),
     }
 }
 

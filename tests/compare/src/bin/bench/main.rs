@@ -1,7 +1,9 @@
-//! Times the compiled engine and the interpreter on the same decks, and counts their instructions:
-//! `bench DRIVER...`.
+//! Times the compiled engine and the interpreter on the same decks, and counts their instructions;
+//! then the engine with a memory and without one: `bench DRIVER MEMORY_DRIVER [EMULATOR...]`.
 
 #![forbid(unsafe_code)]
+
+mod memory;
 
 use compare::call::Call;
 use compare::deck::{largest, Sections};
@@ -29,14 +31,18 @@ const COUNTED: &str = "target/counted";
 const NATIVE: bool = cfg!(target_arch = "x86_64");
 
 fn main() -> ExitCode {
-    let command: Vec<String> = env::args().skip(1).collect();
-    let good = match command.first().map(String::as_str) {
-        None => Err(other("usage: bench DRIVER [ARGUMENT...]")),
-        Some(INTERPRETED) => {
+    let arguments: Vec<String> = env::args().skip(1).collect();
+    let good = match &arguments[..] {
+        [only] if only == INTERPRETED => {
             decks(DECKS, 0).iter().map(Call::interpreted).for_each(drop);
             Ok(true)
         }
-        Some(_) => bench(&command),
+        [driver, with_memory, emulator @ ..] => {
+            let emulated = |program: &String| [emulator, std::slice::from_ref(program)].concat();
+            let commands = [driver, with_memory].map(emulated);
+            bench(&commands[0]).and_then(|good| Ok(memory::bench(&commands)? && good))
+        }
+        _ => Err(other("usage: bench DRIVER MEMORY_DRIVER [EMULATOR...]")),
     };
     match good {
         Ok(good) if good || !NATIVE => ExitCode::SUCCESS,
@@ -110,10 +116,10 @@ fn empty() -> Call {
     Call::patterned(sections.deck(), 0, STATE_BYTES)
 }
 
-/// Prints a line of what engine and interpreter take; whether its ratio is as it has to be.
-fn shows(name: &str, attempts: u32, [engine, interpreter]: [f64; 2], most: f64) -> bool {
-    let ratio = engine / interpreter;
-    println!("{name:<30}{attempts:>10}{engine:>8.1}{interpreter:>13.1}{ratio:>7.2}{most:>9.1}");
+/// Prints a line of what two of them take; whether the ratio is as it has to be.
+fn shows(name: &str, attempts: u32, [one, other]: [f64; 2], most: f64) -> bool {
+    let ratio = one / other;
+    println!("{name:<30}{attempts:>10}{one:>8.1}{other:>13.1}{ratio:>7.2}{most:>9.1}");
     ratio <= most
 }
 

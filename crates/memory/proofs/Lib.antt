@@ -1,0 +1,4 @@
+pub mod Waits
+pub mod Next
+pub mod Loop
+pub mod Hosts

@@ -1,0 +1,14 @@
+pub mod Words
+pub mod Kept
+pub mod Ran
+pub mod Range
+pub mod Inputs
+pub mod History
+pub mod Places
+pub mod Sections
+pub mod Seen
+pub mod Few
+pub mod Sums
+pub mod Hosts
+pub mod Trace
+pub mod Example

@@ -1,0 +1,4 @@
+pub mod History
+pub mod Attempts
+pub mod Decks
+pub mod Example

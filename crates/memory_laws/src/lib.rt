@@ -1,0 +1,1 @@
+// The theorems of runs with a memory on the bus. There is no code here.
