@@ -16,6 +16,26 @@ pub struct Answer {
     pub nanoseconds: u64,
 }
 
+/// How an answer begins, with a memory or without.
+pub(crate) struct Head {
+    pub report: Report,
+    pub damage: u32,
+    pub nanoseconds: u64,
+}
+
+pub(crate) fn head(output: &mut impl Read) -> io::Result<Head> {
+    let report = Report {
+        answer: number(output)?,
+        attempts: number(output)?,
+        microcycles: number(output)?,
+    };
+    Ok(Head {
+        report,
+        damage: number(output)?,
+        nanoseconds: long_number(output)?,
+    })
+}
+
 impl Engine {
     /// The engine behind this command, which is not empty.
     pub fn new(command: Vec<String>) -> Self {
@@ -55,13 +75,11 @@ impl Asked for Call {
     }
 
     fn receive(&self, output: &mut impl Read) -> io::Result<Answer> {
-        let report = Report {
-            answer: number(output)?,
-            attempts: number(output)?,
-            microcycles: number(output)?,
-        };
-        let damage = number(output)?;
-        let nanoseconds = long_number(output)?;
+        let Head {
+            report,
+            damage,
+            nanoseconds,
+        } = head(output)?;
         let mut left = Left {
             report,
             damage,

@@ -3,8 +3,9 @@
 use crate::call::{self, Call};
 use crate::deck::Sections;
 use crate::describe;
-use crate::driver::{long_number, number, Asked};
-use interpreter::{watch, Lent, Report, Rules, Sample, Watched, RULES};
+use crate::driver::Asked;
+use crate::engine::{head, Head};
+use interpreter::{watch, Lent, Rules, Sample, Watched, RULES};
 use std::io::{self, Read, Write};
 
 /// A call with a memory on the bus.
@@ -120,13 +121,11 @@ impl Asked for WithMemory {
     }
 
     fn receive(&self, output: &mut impl Read) -> io::Result<Answer> {
-        let report = Report {
-            answer: number(output)?,
-            attempts: number(output)?,
-            microcycles: number(output)?,
-        };
-        let damage = number(output)?;
-        let nanoseconds = long_number(output)?;
+        let Head {
+            report,
+            damage,
+            nanoseconds,
+        } = head(output)?;
         let call = &self.call;
         let lengths = [self.memory.len(), call.requests.len(), call.state.len()];
         let [mut memory, mut requests, mut state] = lengths.map(|length| vec![0; length]);
