@@ -1,4 +1,6 @@
 // One byte cycle of the data chip, and the flags that one or two of them leave.
+#![tactic(auto)]
+
 ghost use Rattle.std.specs.Prelude.{◌≡◌};
 ghost use Rattle.alu.specs.Cycle.{add_of, subtract_of, kept_of, ones_of, left_of, right_of, cycle_of, high_first_of};
 ghost use Rattle.alu.specs.Marks.{after_of, after_byte_of, after_word_of};
@@ -62,6 +64,7 @@ pub fn add(p: u8, q: u8, carry: bool) -> Cycle
     }
 }
 
+#[tactic(auto, unfolding(crate::specs::Cycle::subtract_of))]
 pub fn subtract(p: u8, q: u8, carry: bool) -> Cycle
     ensures { result ≡ subtract_of p q carry }
 {
@@ -76,6 +79,7 @@ pub fn subtract(p: u8, q: u8, carry: bool) -> Cycle
 }
 
 // A cycle without carries: C4, C8 and C stay as they were.
+#[tactic(auto, unfolding(crate::specs::Cycle::kept_of))]
 pub fn kept(res: u8, f: Flags) -> Cycle
     ensures { result ≡ kept_of res f }
 {
@@ -95,6 +99,7 @@ fn ones(q: u8) -> Cycle
     subtract(0, q, false)
 }
 
+#[tactic(auto, unfolding(crate::specs::Cycle::left_of))]
 fn left(q: u8, carry: bool) -> Cycle
     ensures { result ≡ left_of q carry }
 {
@@ -109,6 +114,7 @@ fn left(q: u8, carry: bool) -> Cycle
     }
 }
 
+#[tactic(auto, unfolding(crate::specs::Cycle::right_of))]
 fn right(q: u8, carry: bool) -> Cycle
     ensures { result ≡ right_of q carry }
 {
@@ -122,6 +128,7 @@ fn right(q: u8, carry: bool) -> Cycle
     }
 }
 
+#[tactic(auto, unfolding(crate::specs::Cycle::cycle_of))]
 pub fn byte_cycle(kind: Kind, p: u8, q: u8, carry: bool, f: Flags) -> Cycle
     ensures { result ≡ cycle_of kind p q carry f }
 {
@@ -150,6 +157,7 @@ pub fn high_first(kind: Kind) -> bool
 }
 
 // The flags after a last cycle: the status always, the conditions where the code is odd.
+#[tactic(auto, unfolding(crate::specs::Marks::after_of))]
 pub fn after(f: Flags, last: Cycle, zero: bool, odd: bool) -> Flags
     ensures { result ≡ after_of f last zero odd }
 {
@@ -178,6 +186,7 @@ pub fn after(f: Flags, last: Cycle, zero: bool, odd: bool) -> Flags
     }
 }
 
+#[tactic(auto, unfolding(crate::specs::Marks::after_byte_of))]
 pub fn after_byte(f: Flags, only: Cycle, odd: bool) -> Flags
     ensures { result ≡ after_byte_of f only odd }
 {
@@ -185,6 +194,7 @@ pub fn after_byte(f: Flags, only: Cycle, odd: bool) -> Flags
     after(f, only, zero, odd)
 }
 
+#[tactic(auto, unfolding(crate::specs::Marks::after_word_of))]
 pub fn after_word(f: Flags, first: Cycle, second: Cycle, odd: bool) -> Flags
     ensures { result ≡ after_word_of f first second odd }
 {

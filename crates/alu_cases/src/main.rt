@@ -1,4 +1,6 @@
 // The byte and word cases of 01, "Checked by hand", that need no state: each is run, and its result and flags printed.
+#![tactic(auto)]
+
 use alu::{Flags, Kind};
 use libc::STDOUT_FILENO;
 

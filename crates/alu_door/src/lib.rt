@@ -1,4 +1,6 @@
 // The byte adder's door for tests in other languages.
+#![tactic(auto)]
+
 ghost use Rattle.std.specs.Prelude.{◌≡◌};
 ghost use Rattle.alu.specs.Cycle.{add_of, subtract_of};
 

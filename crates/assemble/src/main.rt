@@ -1,5 +1,7 @@
 // Assembles the listing on standard input and writes the words' bytes, or one line to standard error. Tabs, carriage
 // returns and comments are taken off first, and so are lines with nothing else in them.
+#![tactic(auto)]
+
 ghost use Rattle.std.specs.Prelude.{◌≤◌, ◌≡◌, length};
 ghost use Rattle.io.specs.Counts.{IsPrefixLen};
 

@@ -1,4 +1,6 @@
 // One attempt: from the sample to what it leaves.
+#![tactic(auto)]
+
 ghost use Rattle.std.specs.Prelude.{◌≡◌, ◌≤◌};
 ghost use Rattle.attempt.specs.Effect.{jumped_of, literal_effect, register_effect};
 ghost use Rattle.attempt.specs.Attempt.{outcome_of, reset_of, modified_of};
@@ -30,6 +32,7 @@ pub struct Outcome {
     pub refusal: u8,
 }
 
+#[tactic(auto, unfolding(crate::specs::Effect::jumped_of))]
 fn jumped(core: Core, code: u8, n: u16) -> Effect
     ensures { result ≡ jumped_of core code n }
 {
@@ -46,6 +49,7 @@ fn jumped(core: Core, code: u8, n: u16) -> Effect
     }
 }
 
+#[tactic(auto, unfolding(crate::specs::Effect::literal_effect))]
 fn literal(file: &mut [u8; 26], core: Core, code: u8, value: u8, reg: u8) -> Effect
     ensures { leaves file.new result ≡ literal_effect file.old core code value reg }
 {
@@ -63,6 +67,7 @@ fn literal(file: &mut [u8; 26], core: Core, code: u8, value: u8, reg: u8) -> Eff
 }
 
 // 70-77 leave the bus and make no request.
+#[tactic(auto, unfolding(crate::specs::Effect::register_effect))]
 fn codes_70_to_77(file: &mut [u8; 26], core: Core, code: u8, b: u8, a: u8, sample: Sample) -> Effect
     requires { code ≤ 0x7F }
     ensures { leaves file.new result ≡ register_effect file.old core code b a sample }
@@ -83,6 +88,7 @@ fn codes_70_to_77(file: &mut [u8; 26], core: Core, code: u8, b: u8, a: u8, sampl
 }
 
 // 80-DF leave the bus and the latches.
+#[tactic(auto, unfolding(crate::specs::Effect::register_effect))]
 fn operation(file: &mut [u8; 26], core: Core, code: u8, b: u8, a: u8, sample: Sample) -> Effect
     requires { (0x80 ≤ code) × (code ≤ 0xDF) }
     ensures { leaves file.new result ≡ register_effect file.old core code b a sample }
@@ -102,6 +108,7 @@ fn operation(file: &mut [u8; 26], core: Core, code: u8, b: u8, a: u8, sample: Sa
 }
 
 // E0-E7 take nothing from the registers.
+#[tactic(auto, unfolding(crate::specs::Effect::register_effect))]
 fn input(file: &mut [u8; 26], core: Core, code: u8, b: u8, a: u8, sample: Sample) -> Effect
     requires { (0xE0 ≤ code) × (code ≤ 0xE7) }
     ensures { leaves file.new result ≡ register_effect file.old core code b a sample }
@@ -124,6 +131,7 @@ fn input(file: &mut [u8; 26], core: Core, code: u8, b: u8, a: u8, sample: Sample
 }
 
 // E8-EF: MI and LTR leave the bus.
+#[tactic(auto, unfolding(crate::specs::Effect::register_effect))]
 fn load(file: &[u8; 26], core: Core, code: u8, b: u8, a: u8, sample: Sample) -> Effect
     requires { (0xE8 ≤ code) × (code ≤ 0xEF) }
     ensures { leaves file.now result ≡ register_effect file.now core code b a sample }
@@ -144,6 +152,7 @@ fn load(file: &[u8; 26], core: Core, code: u8, b: u8, a: u8, sample: Sample) -> 
 }
 
 // F0-FF: reads and writes leave the latches, and only an input is RMW.
+#[tactic(auto, unfolding(crate::specs::Effect::register_effect))]
 fn access(file: &mut [u8; 26], core: Core, code: u8, b: u8, a: u8, sample: Sample) -> Effect
     requires { 0xF0 ≤ code }
     ensures { leaves file.new result ≡ register_effect file.old core code b a sample }
@@ -179,6 +188,7 @@ fn outcome_of(core: Core, request: u32, cycles: u8, refusal: u8) -> Outcome
 }
 
 // An executed word: its effect, the next address, its user bits, and the cycles that its row gives.
+#[tactic(auto, unfolding(crate::specs::Lent::done_by))]
 fn done(row: CodeRow, core: Core, fields: Fields, e: Effect, o: Outputs) -> Outcome
     ensures { result ≡ done_by row core fields e o }
 {
@@ -201,6 +211,7 @@ fn done(row: CodeRow, core: Core, fields: Fields, e: Effect, o: Outputs) -> Outc
 }
 
 // E0-FF. Each kind of instruction ends by itself: what they leave is then nowhere brought together.
+#[tactic(auto, unfolding(crate::specs::Lent::two_by))]
 fn bus_codes(
     row: CodeRow,
     file: &mut [u8; 26],
@@ -230,6 +241,7 @@ fn bus_codes(
     }
 }
 
+#[tactic(auto, unfolding(crate::specs::Lent::two_by))]
 fn two(
     row: CodeRow,
     file: &mut [u8; 26],
@@ -256,6 +268,7 @@ fn two(
 }
 
 // Two designators: refusals, then waiting, then execution.
+#[tactic(auto, unfolding(crate::specs::Lent::checked_two_by))]
 fn checked_two(
     row: CodeRow,
     file: &mut [u8; 26],
@@ -279,6 +292,7 @@ fn checked_two(
 }
 
 // A listed word: a jump or a literal is executed at once.
+#[tactic(auto, unfolding(crate::specs::Lent::checked_kind))]
 fn checked(
     row: CodeRow,
     file: &mut [u8; 26],
@@ -303,6 +317,7 @@ fn checked(
     }
 }
 
+#[tactic(auto, unfolding(crate::specs::Attempt::reset_of))]
 fn reset(core: Core) -> Core
     ensures { result ≡ reset_of core }
 {
@@ -330,6 +345,7 @@ fn reset(core: Core) -> Core
 }
 
 // The waiting modification is ORed into the low 16 bits.
+#[tactic(auto, unfolding(crate::specs::Attempt::modified_of))]
 pub fn modified(word: u32, l: Latches) -> u32
     ensures { result ≡ modified_of word l }
 {
@@ -340,6 +356,7 @@ pub fn modified(word: u32, l: Latches) -> u32
 }
 
 // What rows are matched against, with bit 17 of the word at LC.
+#[tactic(auto, unfolding(crate::specs::Lent::inputs_by, numbers::specs::Numbers::word_at))]
 pub fn inputs(words: &[u8], core: Core, sample: Sample) -> Inputs
     ensures { result ≡ inputs_by words.now core sample }
 {
@@ -348,6 +365,7 @@ pub fn inputs(words: &[u8], core: Core, sample: Sample) -> Inputs
 }
 
 // With RESET low and COMPUTE high: the word at LC is taken, the modification goes in, and the row of its top byte is read.
+#[tactic(auto, unfolding(numbers::specs::Numbers::word_at, crate::specs::Lent::word_by, crate::specs::Lent::fetched_by))]
 fn fetched(
     codes: &[u32; 256],
     words: &[u8],
@@ -381,6 +399,7 @@ fn fetched(
 }
 
 // By the table of top bytes that is lent, and by what the translation rows put out.
+#[tactic(auto, unfolding(crate::specs::Lent::attempt_by))]
 pub fn attempt(
     codes: &[u32; 256],
     words: &[u8],

@@ -1,4 +1,6 @@
 // A memory on the bus, one attempt at a time: the bytes are lent, and what is kept between attempts goes by value.
+#![tactic(auto)]
+
 ghost use Rattle.std.specs.Prelude.{◌≡◌, ◌+◌, ◌-◌, min, true, false, set};
 ghost use Rattle.bus_memory.specs.Memory.{nothing_kept, accesses, takes_in, transfers, word_in, reply_of, data_of, lines_with, stored_in, transfer_waits, waits_after, kept_after, stuck_of, memory_refusal_of};
 
@@ -27,6 +29,7 @@ pub fn nothing() -> Kept
 }
 
 // 0, or 16.
+#[tactic(auto, unfolding(crate::specs::Memory::memory_refusal_of))]
 pub fn refusal(size: usize, delay: u32) -> u8
     ensures { result ≡ memory_refusal_of size delay }
 {
@@ -37,6 +40,7 @@ pub fn refusal(size: usize, delay: u32) -> u8
 }
 
 // Requests 1-4 are reads and writes.
+#[tactic(auto, unfolding(crate::specs::Memory::accesses))]
 fn accesses(request: u32) -> bool
     ensures { result ≡ accesses request }
 {
@@ -49,6 +53,7 @@ fn accesses(request: u32) -> bool
 }
 
 // IB and IW.
+#[tactic(auto, unfolding(crate::specs::Memory::takes_in))]
 fn takes_in(code: u8) -> bool
     ensures { result ≡ takes_in code }
 {
@@ -60,6 +65,7 @@ fn takes_in(code: u8) -> bool
 }
 
 // IB, IW, OB and OW.
+#[tactic(auto, unfolding(crate::specs::Memory::transfers))]
 pub fn transfers(code: u8) -> bool
     ensures { result ≡ transfers code }
 {
@@ -80,6 +86,7 @@ fn word(memory: &[u8], address: u16) -> u16
 }
 
 // REPLY of the next attempt, with SYNC as it is before it.
+#[tactic(auto, unfolding(crate::specs::Memory::reply_of))]
 pub fn replies(kept: Kept, size: usize, sync: bool) -> bool
     ensures { result ≡ reply_of kept size sync }
 {
@@ -87,6 +94,7 @@ pub fn replies(kept: Kept, size: usize, sync: bool) -> bool
 }
 
 // The data that the code at LC sees where the memory replies: IB and IW its word, all others the external ones.
+#[tactic(auto, unfolding(crate::specs::Memory::data_of))]
 fn data(memory: &[u8], address: u16, code: u8, external: u16) -> u16
     ensures { result ≡ data_of memory.now address true code external }
 {
@@ -155,6 +163,7 @@ pub fn store(memory: &mut [u8], kept: Kept, request: u32)
 }
 
 // A wait, by a code that transfers.
+#[tactic(auto, unfolding(crate::specs::Memory::transfer_waits))]
 fn transfer_waits(transfer: bool, request: u32) -> bool
     ensures { result ≡ transfer_waits transfer request }
 {
@@ -178,6 +187,7 @@ fn one_more(waits: u8) -> u8
 }
 
 // The waits in a row, with this attempt.
+#[tactic(auto, unfolding(crate::specs::Memory::waits_after))]
 fn waits_after(waits: u8, transfer: bool, request: u32) -> u8
     ensures { result ≡ waits_after waits transfer request }
 {
@@ -189,6 +199,7 @@ fn waits_after(waits: u8, transfer: bool, request: u32) -> u8
 
 // What is kept after an attempt that made this request; `transfer` says of a wait that its code is one of IB, IW, OB and OW. Most attempts
 // make no request while there is nothing to count.
+#[tactic(auto, unfolding(crate::specs::Memory::kept_after))]
 pub fn after(delay: u8, kept: Kept, transfer: bool, request: u32) -> Kept
     ensures { result ≡ kept_after delay kept transfer request }
 {
@@ -212,6 +223,7 @@ pub fn after(delay: u8, kept: Kept, transfer: bool, request: u32) -> Kept
 }
 
 // This wait is refused by 17.
+#[tactic(auto, unfolding(crate::specs::Memory::stuck_of))]
 pub fn stuck(size: usize, kept: Kept, transfer: bool, request: u32) -> bool
     ensures { result ≡ stuck_of size kept transfer request }
 {

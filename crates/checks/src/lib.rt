@@ -1,4 +1,6 @@
 // What an attempt asks of its instruction before it is executed, by the row of its top byte: refusals 6 and 8, and waiting.
+#![tactic(auto)]
+
 ghost use Rattle.std.specs.Prelude.{◌≡◌};
 ghost use Rattle.checks.specs.Asked.{refusal_by, waits_by, waiting_by};
 
@@ -6,6 +8,7 @@ use code::CodeRow;
 use state::Sample;
 
 // 0, or the number of the refusal: the one of CAD, or of an option that is not listed.
+#[tactic(auto, unfolding(crate::specs::Asked::refusal_by))]
 pub fn refusal(row: CodeRow, code: u8, b: u8) -> u8
     ensures { result ≡ refusal_by row code b }
 {
@@ -18,6 +21,7 @@ pub fn refusal(row: CodeRow, code: u8, b: u8) -> u8
     0
 }
 
+#[tactic(auto, unfolding(crate::specs::Asked::waits_by))]
 fn waits(row: CodeRow, sample: Sample) -> bool
     ensures { result ≡ waits_by row sample }
 {
@@ -30,6 +34,7 @@ fn waits(row: CodeRow, sample: Sample) -> bool
 }
 
 // Only E0-FF are asked.
+#[tactic(auto, unfolding(crate::specs::Asked::waiting_by))]
 pub fn waiting(row: CodeRow, code: u8, sample: Sample) -> bool
     ensures { result ≡ waiting_by row code sample }
 {

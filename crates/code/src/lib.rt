@@ -1,4 +1,6 @@
 // The word taken apart and put together, and what its top byte alone decides.
+#![tactic(auto)]
+
 ghost use Rattle.std.specs.Prelude.{◌≡◌, ◌<◌, get_or};
 ghost use Rattle.code.specs.CodeRows.{class_of, listed, class_number, row_of};
 ghost use Rattle.code.specs.Entries.{class_at, row_of_entry, entries};
@@ -67,6 +69,7 @@ pub enum Together {
 }
 
 // The class of a top byte.
+#[tactic(auto, unfolding(crate::specs::CodeRows::class_of))]
 pub fn class_of(top: u8) -> Class
     ensures { result ≡ class_of top }
 {
@@ -87,12 +90,14 @@ pub fn class_of(top: u8) -> Class
 }
 
 // The table. Each call writes it out anew, so who asks for many rows keeps it and reads it by `row_in`.
+#[tactic(auto, unfolding(crate::specs::Entries::entries, crate::specs::CodeRows::row_of, crate::specs::CodeRows::class_of, crate::specs::CodeRows::cycles_of, crate::specs::CodeRows::waits_of, crate::specs::CodeRows::options_of, crate::specs::CodeRows::status_flags_of, crate::specs::CodeRows::condition_flags_of, crate::specs::CodeRows::stores_of, choose::specs::Ranged::ranged))]
 pub fn rows() -> [u32; 256]
     ensures { result ≡ entries }
 {
     table::ROWS
 }
 
+#[tactic(auto, unfolding(crate::specs::Entries::class_at))]
 fn class_at(n: u32) -> Class
     ensures { result ≡ class_at n }
 {
@@ -106,6 +111,7 @@ fn class_at(n: u32) -> Class
 }
 
 // The row of a top byte in the table that `rows` gave.
+#[tactic(auto, unfolding(crate::specs::Entries::row_of_entry))]
 pub fn row_in(rows: &[u32; 256], top: u8) -> CodeRow
     ensures { result ≡ row_of_entry (get_or rows.now top 0) }
 {
@@ -204,6 +210,7 @@ pub fn operands_in(class: Class, word: u32) -> Operands
 }
 
 // A word taken apart whose top byte is of this class.
+#[tactic(auto, unfolding(crate::specs::Word::apart_as, crate::specs::Word::fields_in))]
 pub fn taken_apart_as(class: Class, word: u32) -> Apart
     ensures { result ≡ apart_as class word }
 {
@@ -246,6 +253,7 @@ fn reach(class: Class) -> u16
     }
 }
 
+#[tactic(auto, unfolding(crate::specs::Word::fits_in))]
 fn fits(class: Class, operands: Operands) -> bool
     ensures { result ≡ fits_in class operands }
 {
@@ -256,6 +264,7 @@ fn fits(class: Class, operands: Operands) -> bool
     }
 }
 
+#[tactic(auto, unfolding(crate::specs::Word::well_formed))]
 fn is_well_formed(f: Fields) -> bool
     ensures { result ≡ well_formed f }
 {
@@ -276,6 +285,7 @@ pub fn low_of(operands: Operands) -> u32
     }
 }
 
+#[tactic(auto, unfolding(crate::specs::Word::together_of, crate::specs::Word::word_of))]
 pub fn put_together(f: Fields) -> Together
     ensures { result ≡ together_of f }
 {

@@ -1,4 +1,6 @@
 // What an executed instruction does outside the register file: bus, request, latches, and the next address.
+#![tactic(auto)]
+
 ghost use Rattle.std.specs.Prelude.{◌≡◌, ◌≤◌};
 ghost use Rattle.control.specs.Bus.{bus_with, q1_of, rmw_of, after_input, bus_after, placed, request_of};
 ghost use Rattle.control.specs.Latches.{used, with_interrupts, with_modification, with_loaded, input_latches_of};
@@ -17,6 +19,7 @@ fn bus_with(m: u16, sync: bool, iack: bool) -> Bus
 }
 
 // Of bits 14 to 6 of TR.
+#[tactic(auto, unfolding(crate::specs::Bus::q1_of))]
 pub fn q1(tr: u16) -> bool
     ensures { result ≡ q1_of tr }
 {
@@ -33,6 +36,7 @@ pub fn q1(tr: u16) -> bool
 }
 
 // IB and IW: b 4-7 is RMW, with CP1621B only while Q1 is false.
+#[tactic(auto, unfolding(crate::specs::Bus::rmw_of))]
 pub fn rmw(marking: Marking, tr: u16, b: u8) -> bool
     ensures { result ≡ rmw_of marking tr b }
 {
@@ -44,6 +48,7 @@ pub fn rmw(marking: Marking, tr: u16, b: u8) -> bool
 }
 
 // RMW keeps the bus.
+#[tactic(auto, unfolding(crate::specs::Bus::after_input))]
 fn after_input(held: Bus, rmw: bool) -> Bus
     ensures { result ≡ after_input held rmw }
 {
@@ -53,6 +58,7 @@ fn after_input(held: Bus, rmw: bool) -> Bus
     bus_with(held.m, false, false)
 }
 
+#[tactic(auto, unfolding(crate::specs::Bus::bus_after))]
 pub fn bus_after(held: Bus, code: u8, rmw: bool, pair: u16) -> Bus
     ensures { result ≡ bus_after held code rmw pair }
 {
@@ -75,6 +81,7 @@ pub fn placed(kind: u8, value: u16) -> u32
     kind as u32 * 65536 + value as u32
 }
 
+#[tactic(auto, unfolding(crate::specs::Bus::request_of))]
 pub fn request(code: u8, pair: u16, dal: u16) -> u32
     ensures { result ≡ request_of code pair dal }
 {
@@ -132,6 +139,7 @@ fn with_loaded(l: Latches, g: u8, tr: u16, ics: bool) -> Latches
     }
 }
 
+#[tactic(auto, unfolding(crate::specs::Latches::input_latches_of))]
 fn input_latches(l: Latches, b: u8, dal: u16, ics: bool) -> Latches
     ensures { result ≡ input_latches_of l b dal ics }
 {
@@ -157,6 +165,7 @@ fn with_modification(l: Latches, modification: u16) -> Latches
     }
 }
 
+#[tactic(auto, unfolding(crate::specs::Parts::latches_after70_to77))]
 pub fn latches_after_70_to_77(l: Latches, code: u8, b: u8, ra: u8) -> Latches
     ensures { result ≡ latches_after70_to77 l code b ra }
 {
@@ -168,6 +177,7 @@ pub fn latches_after_70_to_77(l: Latches, code: u8, b: u8, ra: u8) -> Latches
     }
 }
 
+#[tactic(auto, unfolding(crate::specs::Parts::latches_after_input))]
 pub fn latches_after_input(l: Latches, code: u8, b: u8, sample: Sample) -> Latches
     ensures { result ≡ latches_after_input l code b sample }
 {
@@ -177,6 +187,7 @@ pub fn latches_after_input(l: Latches, code: u8, b: u8, sample: Sample) -> Latch
     }
 }
 
+#[tactic(auto, unfolding(crate::specs::Parts::latches_after_load))]
 pub fn latches_after_load(l: Latches, code: u8, pair: u16) -> Latches
     ensures { result ≡ latches_after_load l code pair }
 {
@@ -195,6 +206,7 @@ pub enum Way {
     Onward,
 }
 
+#[tactic(auto, unfolding(crate::specs::Next::condition_of))]
 fn condition(code: u8, f: Flags, ics: bool) -> bool
     requires { 0x10 ≤ code }
     ensures { result ≡ condition_of code f ics }
@@ -212,6 +224,7 @@ fn condition(code: u8, f: Flags, ics: bool) -> bool
 }
 
 // Odd codes jump where the condition is true, even ones where it is false.
+#[tactic(auto, unfolding(crate::specs::Next::jump_taken))]
 fn jump_taken(code: u8, f: Flags, ics: bool) -> bool
     requires { 0x10 ≤ code }
     ensures { result ≡ jump_taken code f ics }
@@ -232,6 +245,7 @@ fn within_page(lc: u16, n: u16, jumps: bool) -> Way
     Way::Onward
 }
 
+#[tactic(auto, unfolding(crate::specs::Next::way_of))]
 pub fn way_of(lc: u16, code: u8, n: u16, f: Flags, ics: bool) -> Way
     ensures { result ≡ way_of lc code n f ics }
 {
@@ -244,6 +258,7 @@ pub fn way_of(lc: u16, code: u8, n: u16, f: Flags, ics: bool) -> Way
 }
 
 // The byte of TR that the rows see.
+#[tactic(auto, unfolding(crate::specs::Next::tr_byte_of))]
 fn tr_byte(tr: u16, tsr: u8) -> u8
     ensures { result ≡ tr_byte_of tr tsr }
 {
@@ -253,6 +268,7 @@ fn tr_byte(tr: u16, tsr: u8) -> u8
     (tr / 256) as u8
 }
 
+#[tactic(auto, unfolding(crate::specs::Next::inputs_of))]
 pub fn inputs(core: Core, rni: bool, sample: Sample) -> Inputs
     ensures { result ≡ inputs_of core rni sample }
 {
@@ -275,6 +291,7 @@ fn plus_one(lc: u16) -> u16
 }
 
 // With no jump: LRA, else LTA, else the next word.
+#[tactic(auto, unfolding(crate::specs::Next::onward_of))]
 fn onward(a: Address, o: Outputs) -> u16
     ensures { result ≡ onward_of a o }
 {
@@ -287,6 +304,7 @@ fn onward(a: Address, o: Outputs) -> u16
     plus_one(a.lc)
 }
 
+#[tactic(auto, unfolding(crate::specs::Next::next_of))]
 fn next(a: Address, way: Way, o: Outputs) -> u16
     ensures { result ≡ next_of a way o }
 {
@@ -297,6 +315,7 @@ fn next(a: Address, way: Way, o: Outputs) -> u16
     }
 }
 
+#[tactic(auto, unfolding(crate::specs::Next::rr_of))]
 fn rr_after(a: Address, loads: bool) -> u16
     ensures { result ≡ rr_of a loads }
 {
@@ -307,6 +326,7 @@ fn rr_after(a: Address, loads: bool) -> u16
 }
 
 // RTSR clears TSR and wins over LTSR.
+#[tactic(auto, unfolding(crate::specs::Next::tsr_of))]
 fn tsr_after(tsr: u8, code: u8, o: Outputs) -> u8
     ensures { result ≡ tsr_of tsr code o }
 {
@@ -320,6 +340,7 @@ fn tsr_after(tsr: u8, code: u8, o: Outputs) -> u8
 }
 
 // Where no row puts a line out, nothing of the rows is looked at.
+#[tactic(auto, unfolding(crate::specs::Next::next_of, crate::specs::Next::onward_of))]
 fn unled(a: Address, way: Way) -> u16
     ensures { result ≡ next_of a way none }
 {
@@ -330,6 +351,7 @@ fn unled(a: Address, way: Way) -> u16
     }
 }
 
+#[tactic(auto, unfolding(crate::specs::Next::next_of, crate::specs::Next::onward_of, crate::specs::Next::tsr_of, crate::specs::Next::address_after))]
 pub fn address_after(a: Address, way: Way, code: u8, loads: bool, o: Outputs) -> Address
     ensures { result ≡ address_after a way code loads o }
 {

@@ -1,1 +1,3 @@
 // Laws of a run whose samples are cut: no code.
+#![tactic(auto)]
+

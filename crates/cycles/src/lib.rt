@@ -1,4 +1,6 @@
 // What an instruction's byte cycles do: one for a byte, two for a word, the second reading what the first wrote.
+#![tactic(auto)]
+
 ghost use Rattle.std.specs.Prelude.{◌≡◌};
 ghost use Rattle.cycles.specs.Cycles.{operand_of};
 
@@ -29,6 +31,7 @@ pub struct Designators {
     pub b: u8,
 }
 
+#[tactic(auto, unfolding(crate::specs::Cycles::operand_of))]
 pub fn operand_of(o: Operand, ra: u8, rb: u8, high: bool) -> u8
     ensures { result ≡ operand_of o ra rb high }
 {

@@ -1,4 +1,6 @@
 // A deck's bytes: its four sections, each handed back as that part of the deck, what they hold, and the refusals before the first attempt.
+#![tactic(auto)]
+
 ghost use Rattle.std.specs.Prelude.{◌≡◌, ◌+◌, ◌*◌, ◌≤◌};
 ghost use Rattle.state_bytes.specs.Bytes.{state_bytes};
 ghost use Rattle.deck.specs.Sections.{section_end, layout_of};
@@ -20,6 +22,7 @@ pub struct Layout {
 }
 
 // Where the section that starts at byte a ends, which has elements of size bytes: the next one starts there.
+#[tactic(auto, unfolding(crate::specs::Sections::section_end))]
 fn section_end(deck: &[u8], a: usize, size: usize) -> usize
     requires { (a ≤ 16777216) × (size ≤ state_bytes) }
     ensures { (result ≡ section_end deck.now a size) × (result ≤ a + 2 + state_bytes * 65535) }
@@ -29,6 +32,7 @@ fn section_end(deck: &[u8], a: usize, size: usize) -> usize
 }
 
 // A deck of any length has a layout: that it fits the deck is for whole to say.
+#[tactic(auto, unfolding(crate::specs::Sections::layout_of))]
 pub fn sections(deck: &[u8]) -> Layout
     ensures { result ≡ layout_of deck.now }
 {
@@ -45,6 +49,7 @@ pub fn sections(deck: &[u8]) -> Layout
 }
 
 // The deck is as long as its counts say and no longer than a deck may be, and it has one state.
+#[tactic(auto, unfolding(crate::specs::Layouts::whole_by))]
 fn whole(deck: &[u8], l: Layout) -> bool
     ensures { result ≡ whole_by deck.now l }
 {
@@ -53,6 +58,7 @@ fn whole(deck: &[u8], l: Layout) -> bool
 }
 
 // The section whose count is at byte a and which ends before byte end; the empty part where the deck has none such.
+#[tactic(auto, unfolding(crate::specs::Layouts::between))]
 fn section(deck: &[u8], a: usize, end: usize) -> &[u8]
     ensures { result.now ≡ between deck.now a end }
 {
@@ -105,6 +111,7 @@ pub fn sample(low: u8, high: u8, lines: u8, interrupts: u8) -> Sample
 }
 
 // Words and samples alike, four bytes each: none has one of the unused bits. All are looked at, so that several go at once.
+#[tactic(auto, unfolding(numbers::specs::Numbers::word_at, crate::specs::Quads::every_quad))]
 fn every_quad(part: &[u8], unused: u32) -> bool
     ensures { result ≡ every_quad part.now unused }
 {
@@ -125,6 +132,7 @@ fn every_quad(part: &[u8], unused: u32) -> bool
 }
 
 // 22 bits.
+#[tactic(auto, unfolding(crate::specs::Ranges::words_in_range))]
 pub fn words_in_range(part: &[u8]) -> bool
     ensures { result ≡ words_in_range part.now }
 {
@@ -132,6 +140,7 @@ pub fn words_in_range(part: &[u8]) -> bool
 }
 
 // 16 bits of data, five lines and four interrupts.
+#[tactic(auto, unfolding(crate::specs::Ranges::samples_in_range))]
 pub fn samples_in_range(part: &[u8]) -> bool
     ensures { result ≡ samples_in_range part.now }
 {
@@ -139,6 +148,7 @@ pub fn samples_in_range(part: &[u8]) -> bool
 }
 
 // More than 128 rows are refused unread: a table has room for no more.
+#[tactic(auto, unfolding(crate::specs::Ranges::rows_part_in_range))]
 pub fn rows_in_range(part: &[u8]) -> bool
     ensures { result ≡ rows_part_in_range part.now }
 {
@@ -164,6 +174,7 @@ pub struct Opened {
 }
 
 // The refusal before the first attempt, or 0; the lengths are those of the host's two buffers, in bytes.
+#[tactic(auto, unfolding(crate::specs::Layouts::refusal_by))]
 fn refusal(deck: &[u8], l: Layout, requests_len: usize, state_len: usize, marking: u32) -> u8
     ensures { result ≡ refusal_by deck.now l requests_len state_len marking }
 {

@@ -1,5 +1,7 @@
 // Reads a deck from standard input and prints one line: answer, attempts, microcycles, LC, flag byte; for 9 only the first three.
 // Its argument is the control chip's marking, in decimal; without one it is 1661.
+#![tactic(auto)]
+
 use libc::{STDIN_FILENO, STDOUT_FILENO};
 use state_bytes::STATE_BYTES;
 

@@ -1,4 +1,6 @@
 // The run, and the bench host's entry.
+#![tactic(auto)]
+
 ghost use Rattle.std.specs.Prelude.{◌≡◌, ◌*◌, ◌+◌, ◌<◌, ◌≤◌, length};
 ghost use Rattle.deck.specs.Elements.{sample_at};
 ghost use Rattle.engine.specs.Run.{world, put4_of, samples_from};
@@ -8,6 +10,7 @@ ghost use Rattle.engine.specs.Host.{hosted, host_of};
 use rows::{Inputs, Outputs};
 use state::{Core, Sample};
 
+#[tactic(auto, unfolding(crate::specs::Run::put4_of))]
 fn put4(b: &mut [u8], at: usize, x: u32)
     requires { at + 4 ≤ length b.old }
     ensures { b.new ≡ put4_of b.old at x }
@@ -58,6 +61,7 @@ pub fn going(at: RunEnd, n: usize) -> bool
 }
 
 // What m rows are matched against in the next attempt. Without rows nothing is looked at.
+#[tactic(auto, unfolding(crate::specs::RunEnds::inputs_for))]
 fn inputs(words: &[u8], samples: &[u8], at: RunEnd, m: usize) -> Inputs
     requires { at.attempts * 4 + 4 ≤ length samples.now }
     ensures { result ≡ inputs_for m words.now at.core (sample_at samples.now at.attempts) }

@@ -1,4 +1,6 @@
 // What each executed instruction does to the registers and the flags.
+#![tactic(auto)]
+
 ghost use Rattle.std.specs.Prelude.{◌≡◌, ◌<◌, ltb, set};
 ghost use Rattle.alu.specs.Marks.{after_byte_of, after_word_of};
 ghost use Rattle.choose.specs.Ranged.{pick};
@@ -34,6 +36,7 @@ fn stored_second(
 }
 
 // 20-6F: AL CL NL TL LL. CL is a subtract that writes no register and leaves C4 and C8.
+#[tactic(auto, unfolding(crate::specs::Execute::literal_of, cycles::specs::Cycles::one_cycle_of, cycles::specs::Cycles::step_of, cycles::specs::Cycles::operand_of, state::specs::File::register_of, state::specs::File::written_of, plan::specs::Plan::literal_plan_of, alu::specs::Cycle::cycle_of, crate::specs::Execute::compared_of))]
 pub fn literal(file: &mut [u8; 26], g: u8, f: Flags, code: u8, value: u8, a: u8) -> Flags
     ensures { leaves file.new result ≡ literal_of file.old g f code value a }
 {
@@ -61,6 +64,7 @@ fn either(t: bool, x: bool, y: bool) -> bool
 }
 
 // LCF: N Z V C from bits 7-4 of Ra, where b's bits 3-0 are 1.
+#[tactic(auto, unfolding(crate::specs::Execute::loaded_of))]
 fn loaded(f: Flags, ra: u8, b: u8) -> Flags
     ensures { result ≡ loaded_of f ra b }
 {
@@ -78,6 +82,7 @@ fn loaded(f: Flags, ra: u8, b: u8) -> Flags
 }
 
 // CIB and CDB: C8 is added, to 0 or to 255.
+#[tactic(auto, unfolding(crate::specs::Execute::stepped_by_of, cycles::specs::Cycles::one_cycle_of, cycles::specs::Cycles::step_of, cycles::specs::Cycles::operand_of, alu::specs::Cycle::cycle_of, state::specs::File::register_of, state::specs::File::written_of))]
 fn stepped_by(file: &mut [u8; 26], g: u8, f: Flags, a: u8, by: u8) -> Flags
     ensures { leaves file.new result ≡ stepped_by_of file.old g f a by }
 {
@@ -86,6 +91,7 @@ fn stepped_by(file: &mut [u8; 26], g: u8, f: Flags, a: u8, by: u8) -> Flags
     stored(file, i, f, y, false)
 }
 
+#[tactic(auto, unfolding(crate::specs::Execute::copied_of))]
 fn copied(file: &mut [u8; 26], g: u8, f: Flags, a: u8) -> Flags
     ensures { leaves file.new result ≡ copied_of file.old g f a }
 {
@@ -95,6 +101,7 @@ fn copied(file: &mut [u8; 26], g: u8, f: Flags, a: u8) -> Flags
 }
 
 // 70-77: CCF, LCF, CIB and CDB; the others leave registers and flags.
+#[tactic(auto, unfolding(crate::specs::Execute::codes70_to77_of))]
 pub fn codes_70_to_77(file: &mut [u8; 26], g: u8, f: Flags, code: u8, b: u8, a: u8) -> Flags
     ensures { leaves file.new result ≡ codes70_to77_of file.old g f code b a }
 {
@@ -112,6 +119,7 @@ pub fn codes_70_to_77(file: &mut [u8; 26], g: u8, f: Flags, code: u8, b: u8, a: 
 }
 
 // One cycle of 80-DF. The plan is asked for here, where it is used: the compiler makes one jump of its line and what the cycle then does.
+#[tactic(auto, unfolding(cycles::specs::Cycles::step_of, state::specs::File::register_of, state::specs::File::written_of))]
 fn step(
     file: &mut [u8; 26],
     g: u8,
@@ -178,6 +186,7 @@ fn operation(file: &mut [u8; 26], g: u8, f: Flags, code: u8, b: u8, a: u8) -> Fl
     alu::after(f, y, zero, code % 2 == 1)
 }
 
+#[tactic(auto, unfolding(crate::specs::Execute::conditioned_of))]
 pub fn conditioned(file: &mut [u8; 26], g: u8, f: Flags, ics: bool, code: u8, b: u8, a: u8) -> Flags
     ensures { leaves file.new result ≡ conditioned_of file.old g f ics code b a }
 {
@@ -188,6 +197,7 @@ pub fn conditioned(file: &mut [u8; 26], g: u8, f: Flags, ics: bool, code: u8, b:
 }
 
 // Which byte IB and ISB take, by b mod 4: the upper, the lower, the one that M bit 0 names, or the other one.
+#[tactic(auto, unfolding(crate::specs::Execute::upper_of))]
 fn upper(m: u16, b: u8) -> bool
     ensures { result ≡ upper_of m b }
 {
@@ -199,6 +209,7 @@ fn upper(m: u16, b: u8) -> bool
     }
 }
 
+#[tactic(auto, unfolding(crate::specs::Execute::selected_of))]
 fn selected(dal: u16, m: u16, b: u8) -> u8
     ensures { result ≡ selected_of dal m b }
 {
@@ -209,6 +220,7 @@ fn selected(dal: u16, m: u16, b: u8) -> u8
 }
 
 // E0-E7: a byte into Ra, or a word into its pair.
+#[tactic(auto, unfolding(crate::specs::Execute::input_of, cycles::specs::Cycles::one_cycle_of, cycles::specs::Cycles::step_of, cycles::specs::Cycles::operand_of, alu::specs::Cycle::cycle_of, state::specs::File::register_of, state::specs::File::written_of, cycles::specs::Cycles::two_cycles_of))]
 pub fn input(
     file: &mut [u8; 26],
     g: u8,
@@ -242,6 +254,7 @@ fn gain(code: u8) -> u8
 }
 
 // F0-F7: Ra gains 1 or 2; the word codes add the carry to Rb.
+#[tactic(auto, unfolding(crate::specs::Execute::access_of, cycles::specs::Cycles::one_cycle_of, cycles::specs::Cycles::step_of, cycles::specs::Cycles::operand_of, alu::specs::Cycle::cycle_of, state::specs::File::register_of, state::specs::File::written_of, cycles::specs::Cycles::two_cycles_of))]
 fn gained(file: &mut [u8; 26], g: u8, f: Flags, code: u8, b: u8, a: u8) -> Flags
     ensures { leaves file.new result ≡ access_of file.old g f code b a }
 {

@@ -1,4 +1,6 @@
 // What operands an instruction has in a listing, and which top byte a mnemonic names.
+#![tactic(auto)]
+
 ghost use Rattle.std.specs.Prelude.{◌≡◌};
 ghost use Rattle.forms.specs.Forms.{spare_of, register_form, form_in, form_of, limit_of, joined_of, first_of, second_of};
 ghost use Rattle.forms.specs.Named.{top_named, twinned, odd_of};
@@ -29,6 +31,7 @@ pub struct Form {
 }
 
 // The bits that the summary marks x.
+#[tactic(auto, unfolding(crate::specs::Forms::spare_of))]
 fn spare(top: u8) -> u16
     ensures { result ≡ spare_of top }
 {
@@ -99,6 +102,7 @@ fn form_in(class: Class, spare: u16) -> Form
     }
 }
 
+#[tactic(auto, unfolding(crate::specs::Forms::form_of))]
 pub fn form_of(top: u8) -> Form
     ensures { result ≡ form_of top }
 {
@@ -106,6 +110,7 @@ pub fn form_of(top: u8) -> Form
 }
 
 // How many values an operand of so many digits has.
+#[tactic(auto, unfolding(crate::specs::Forms::limit_of))]
 pub fn limit(digits: u8) -> u16
     ensures { result ≡ limit_of digits }
 {
@@ -118,6 +123,7 @@ pub fn limit(digits: u8) -> u16
 }
 
 // The typed operands as the word's low bits.
+#[tactic(auto, unfolding(crate::specs::Forms::joined_of))]
 pub fn joined(form: Form, first: u16, second: u16) -> u32
     ensures { result ≡ joined_of form first second }
 {
@@ -131,6 +137,7 @@ pub fn joined(form: Form, first: u16, second: u16) -> u32
 }
 
 // The operands to type for a word's low bits.
+#[tactic(auto, unfolding(crate::specs::Forms::first_of))]
 pub fn first_of(form: Form, low: u32) -> u32
     ensures { result ≡ first_of form low }
 {
@@ -143,6 +150,7 @@ pub fn first_of(form: Form, low: u32) -> u32
     low / 0x10
 }
 
+#[tactic(auto, unfolding(crate::specs::Forms::second_of))]
 pub fn second_of(form: Form, low: u32) -> u32
     ensures { result ≡ second_of form low }
 {
@@ -156,6 +164,7 @@ pub fn second_of(form: Form, low: u32) -> u32
 }
 
 // The first top byte of a mnemonic; 0x100 where it is none.
+#[tactic(auto, unfolding(crate::specs::Named::top_named))]
 pub fn top_named(name: u32) -> usize
     ensures { result ≡ top_named name }
 {
@@ -174,6 +183,7 @@ pub fn top_named(name: u32) -> usize
 }
 
 // Whether the code after this one has the same mnemonic, and is its odd twin.
+#[tactic(auto, unfolding(crate::specs::Named::twinned, code::specs::CodeRows::class_of, names::specs::Mnemonics::mnemonic_of, choose::specs::Ranged::ranged))]
 pub fn has_twin(top: u8) -> bool
     ensures { result ≡ twinned top }
 {
@@ -187,6 +197,7 @@ pub fn has_twin(top: u8) -> bool
 }
 
 // Whether a code is the odd one of a pair.
+#[tactic(auto, unfolding(crate::specs::Named::odd_of))]
 pub fn is_odd(code: u8) -> bool
     ensures { result ≡ odd_of code }
 {

@@ -1,4 +1,6 @@
 // A line taken apart: its address and its word, or why it is refused.
+#![tactic(auto)]
+
 ghost use Rattle.std.specs.Prelude.{◌≡◌, ◌-◌, ◌≤◌, length, take, drop};
 ghost use Rattle.pieces.specs.Parts.{pieces_of};
 ghost use Rattle.pieces.specs.Read.{name_of, value_of};
@@ -54,6 +56,7 @@ fn number_in(line: &[u8], p: Piece) -> u16
 }
 
 // The digit of U; 0x10 for what is no U with one digit.
+#[tactic(auto, unfolding(crate::specs::Marks::user_in))]
 fn user_in(name: u32) -> u8
     ensures { result ≡ user_in name }
 {
@@ -63,6 +66,7 @@ fn user_in(name: u32) -> u8
     0x10
 }
 
+#[tactic(auto, unfolding(crate::specs::Marks::with_user))]
 fn with_user(mut m: Marks, user: u8) -> Marks
     ensures { result ≡ with_user m user }
 {
@@ -75,6 +79,7 @@ fn with_user(mut m: Marks, user: u8) -> Marks
     m
 }
 
+#[tactic(auto, unfolding(crate::specs::Marks::with_mark))]
 fn with_mark(mut m: Marks, name: u32) -> Marks
     ensures { result ≡ with_mark m name }
 {
@@ -97,6 +102,7 @@ fn with_mark(mut m: Marks, name: u32) -> Marks
 }
 
 // The marks from `first` to the line's end.
+#[tactic(auto, unfolding(crate::specs::Marks::marks_from))]
 fn marks_from(line: &[u8], first: usize) -> Marks
     ensures { result ≡ marks_from no_marks (pieces_of (drop first line.now)) }
 {
@@ -118,6 +124,7 @@ fn marks_from(line: &[u8], first: usize) -> Marks
     }
 }
 
+#[tactic(auto, unfolding(crate::specs::Line::tail_of))]
 fn tail_of(line: &[u8], at: usize) -> Tail
     ensures { result ≡ tail_of (pieces_of (drop at line.now)) }
 {
@@ -152,6 +159,7 @@ fn tail_of(line: &[u8], at: usize) -> Tail
     }
 }
 
+#[tactic(auto, unfolding(crate::specs::Line::fits_form))]
 fn fits(form: Form, t: Tail) -> bool
     ensures { result ≡ fits_form form t }
 {
@@ -184,6 +192,7 @@ fn word_for(top: u8, t: Tail) -> Together
     })
 }
 
+#[tactic(auto, unfolding(crate::specs::Line::placed_of))]
 fn placed(next: u32, address: u16, t: Together) -> Line
     ensures { result ≡ placed_of next address t }
 {
@@ -201,6 +210,7 @@ fn placed(next: u32, address: u16, t: Together) -> Line
 }
 
 // A line whose address has to be `next` or more.
+#[tactic(auto, unfolding(crate::specs::Line::line_of))]
 pub fn line_of(line: &[u8], next: u32) -> Line
     ensures { result ≡ line_of next (pieces_of line.now) }
 {

@@ -1,4 +1,6 @@
 // Lists the words whose bytes are on standard input, or writes one line to standard error.
+#![tactic(auto)]
+
 use libc::{STDERR_FILENO, STDIN_FILENO, STDOUT_FILENO};
 
 fn complain(text: &[u8]) {

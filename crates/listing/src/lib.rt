@@ -1,4 +1,6 @@
 // The assembler and the lister, for hosts.
+#![tactic(auto)]
+
 ghost use Rattle.std.specs.Prelude.{◌≡◌, ◌+◌, ◌*◌, ◌-◌, ◌≤◌, [], ◌∷◌, length, replicate};
 ghost use Rattle.std.proofs.lemmas.List.Edits.{sets};
 ghost use Rattle.pieces.specs.Parts.{lines_of};
@@ -43,6 +45,7 @@ fn put(out: &mut [u8], at: usize, b: u8)
     }
 }
 
+#[tactic(auto, unfolding(crate::specs::Assembled::bytes_of))]
 fn put_word(words: &mut [u8], address: u32, word: u32)
     requires { address ≤ 2048 }
     ensures { words.new ≡ sets words.old (4 * address) (bytes_of (word ∷ [])) }
@@ -55,6 +58,7 @@ fn put_word(words: &mut [u8], address: u32, word: u32)
 }
 
 // The gap before an address.
+#[tactic(auto, unfolding(crate::specs::Assembled::bytes_of))]
 fn fill(words: &mut [u8], next: u32, address: u32)
     requires { address ≤ 2048 }
     ensures { words.new ≡ sets words.old (4 * next) (bytes_of (replicate (address - next) 0xFF00)) }
@@ -67,6 +71,7 @@ fn fill(words: &mut [u8], next: u32, address: u32)
 }
 
 // Assembles a text up to its end or its first bad line, as far as there is room.
+#[tactic(auto, unfolding(crate::specs::Assembled::bytes_of))]
 fn assembled(text: &[u8], words: &mut [u8]) -> Report
     ensures { (result ≡ refusal_from 1 0 (lines_of text.now)) × (words.new ≡ sets words.old 0 (bytes_of (words_from 0 (lines_of text.now)))) }
 {
@@ -131,6 +136,7 @@ fn count(words: &[u8]) -> usize
 }
 
 // 01's number for word i: 2 out of range, 6 unlisted, else 0.
+#[tactic(auto, unfolding(numbers::specs::Numbers::word_at))]
 fn number_at(words: &[u8], i: usize) -> u32
     requires { i ≤ 2048 }
     ensures { result ≡ number_of (apart_of (word_at words.now i)) }
@@ -170,6 +176,7 @@ fn copy(text: &mut [u8], at: usize, line: &[u8])
 }
 
 // The line of one word, as far as there is room, and where the next begins.
+#[tactic(auto, unfolding(crate::specs::Listed::word_line))]
 fn word_line(text: &mut [u8], at: usize, address: usize, word: u32) -> usize
     requires { (address ≤ 2048) × (at ≤ 40 * address) }
     ensures { Laid text.old at (word_line address word) 40 text.new result }
@@ -187,6 +194,7 @@ fn word_line(text: &mut [u8], at: usize, address: usize, word: u32) -> usize
 }
 
 // The lines of n words, as far as there is room, and their length.
+#[tactic(auto, unfolding(crate::specs::Listed::listing_from, numbers::specs::Numbers::word_at))]
 fn listed(words: &[u8], n: usize, text: &mut [u8]) -> usize
     requires { n ≤ 2048 }
     ensures { Laid text.old 0 (listing_from 0 (firsts (word_at words.now) 0 n)) 81920 text.new result }

@@ -1,4 +1,6 @@
 // Writes the table of docs/LISTING.md: a line for each mnemonic, with its codes and its operands, from the proved tables.
+#![tactic(auto)]
+
 use code::Class;
 use forms::Form;
 use libc::STDOUT_FILENO;

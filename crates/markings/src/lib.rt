@@ -1,1 +1,3 @@
 // Laws of the chip's marking: no code.
+#![tactic(auto)]
+

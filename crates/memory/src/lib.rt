@@ -1,4 +1,6 @@
 // The run with a memory on the bus, and the bench host's entry to it.
+#![tactic(auto)]
+
 ghost use Rattle.std.specs.Prelude.{◌≡◌, ◌*◌, ◌+◌, ◌<◌, ◌≤◌, length};
 ghost use Rattle.deck.specs.Elements.{sample_at};
 ghost use Rattle.engine.specs.Run.{world, put4_of, samples_from};
@@ -29,6 +31,7 @@ fn ran_with(end: RunEnd, kept: Kept) -> Ran
     Ran { end, kept }
 }
 
+#[tactic(auto, unfolding(engine::specs::Run::put4_of))]
 fn put4(b: &mut [u8], at: usize, x: u32)
     requires { at + 4 ≤ length b.old }
     ensures { b.new ≡ put4_of b.old at x }
@@ -52,6 +55,7 @@ fn sample(samples: &[u8], i: usize) -> Sample
 }
 
 // What m rows are matched against in the next attempt. Without rows nothing is looked at.
+#[tactic(auto, unfolding(engine::specs::RunEnds::inputs_for, rows::specs::Packing::side_by_side))]
 fn key(words: &[u8], samples: &[u8], at: RunEnd, m: usize) -> u32
     requires { at.attempts * 4 + 4 ≤ length samples.now }
     ensures { result ≡ key_of (inputs_for m words.now at.core (sample_at samples.now at.attempts)) }
@@ -64,6 +68,7 @@ fn key(words: &[u8], samples: &[u8], at: RunEnd, m: usize) -> u32
 }
 
 // The code of the word at LC, with a waiting modification.
+#[tactic(auto, unfolding(crate::specs::Run::code_at, numbers::specs::Numbers::word_at))]
 fn code_at(words: &[u8], core: Core) -> u8
     ensures { result ≡ code_at words.now core }
 {
@@ -73,6 +78,7 @@ fn code_at(words: &[u8], core: Core) -> u8
 }
 
 // The lines that the next attempt sees. Only where the memory replies is the code looked at.
+#[tactic(auto, unfolding(bus_memory::specs::Memory::seen_of, bus_memory::specs::Memory::data_of))]
 fn seen(words: &[u8], memory: &[u8], kept: Kept, core: Core, external: Sample) -> Sample
     ensures { result ≡ seen_of memory.now kept core.bus.sync (code_at words.now core) external }
 {
@@ -83,6 +89,7 @@ fn seen(words: &[u8], memory: &[u8], kept: Kept, core: Core, external: Sample) -
 }
 
 // Of a wait, whether its code transfers. Only of a wait is the code looked at.
+#[tactic(auto, unfolding(crate::specs::Lent::transfer_of))]
 fn transfer(words: &[u8], core: Core, request: u32) -> bool
     ensures { result ≡ transfer_of words.now core request }
 {
@@ -132,6 +139,7 @@ fn taken(
 }
 
 // One more attempt.
+#[tactic(auto, unfolding(crate::specs::Run::seen_by))]
 fn attempted(
     codes: &[u32; 256],
     words: &[u8],

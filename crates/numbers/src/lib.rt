@@ -1,4 +1,6 @@
 // Numbers in bytes, the low byte first. A byte past the end reads as 0, so that a place asks nothing of its reader.
+#![tactic(auto)]
+
 ghost use Rattle.std.specs.Prelude.{◌≡◌};
 ghost use Rattle.numbers.specs.Numbers.{byte_at, pair_of, quad_of, pair_at, quad_at};
 

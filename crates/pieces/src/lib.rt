@@ -1,4 +1,6 @@
 // A text in parts, and a part read as a name or as a number.
+#![tactic(auto)]
+
 ghost use Rattle.std.specs.Prelude.{◌≡◌, ◌+◌, drop};
 ghost use Rattle.pieces.specs.Counted.{length_to, spaces_of, PieceAt, more_of};
 ghost use Rattle.pieces.specs.Read.{upper_of, letter_of, name_of, digit_of, value_of};
@@ -50,6 +52,7 @@ pub fn piece_at(line: &[u8], at: usize) -> Piece
     Piece { from, to }
 }
 
+#[tactic(auto, unfolding(crate::specs::Read::upper_of))]
 fn upper(c: u8) -> u8
     ensures { result ≡ upper_of c }
 {
@@ -59,6 +62,7 @@ fn upper(c: u8) -> u8
     }
 }
 
+#[tactic(auto, unfolding(crate::specs::Read::upper_of, choose::specs::Ranged::ranged))]
 fn letter(piece: &[u8], i: usize) -> u8
     ensures { result ≡ letter_of piece.now i }
 {
@@ -69,6 +73,7 @@ fn letter(piece: &[u8], i: usize) -> u8
 }
 
 // A piece as a name: four letters, the first in the highest byte, spaces at the end.
+#[tactic(auto, unfolding(crate::specs::Read::name_of))]
 pub fn name_of(piece: &[u8]) -> u32
     ensures { result ≡ name_of piece.now }
 {
@@ -83,6 +88,7 @@ pub fn name_of(piece: &[u8]) -> u32
 }
 
 // A hexadecimal digit's value; 0x10 for any other byte.
+#[tactic(auto, unfolding(crate::specs::Read::digit_of))]
 pub fn digit_of(c: u8) -> u8
     ensures { result ≡ digit_of c }
 {

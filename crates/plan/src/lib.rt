@@ -1,4 +1,6 @@
 // What the cycles of each register code do: 80-DF of manual 5.3.2, as 01 reads it.
+#![tactic(auto)]
+
 ghost use Rattle.std.specs.Prelude.{◌≡◌};
 ghost use Rattle.plan.specs.Plan.{plan_with, plan_of, condition_met};
 
@@ -18,6 +20,7 @@ fn plan_with(kind: Kind, p: Operand, q: Operand, carry: bool, stores: bool) -> P
 }
 
 // Four codes for each, its byte and word forms; the compiler makes a jump of the line and what its cycle does.
+#[tactic(auto, unfolding(crate::specs::Plan::plan_of))]
 pub fn plan(code: u8, f: Flags) -> Plan
     ensures { result ≡ plan_of code f }
 {
@@ -49,6 +52,7 @@ pub fn plan(code: u8, f: Flags) -> Plan
 }
 
 // Whether a condition lets the code work: C for CMB, CMW, CAB and CAW, ICS for CAWI.
+#[tactic(auto, unfolding(crate::specs::Plan::condition_met))]
 pub fn condition_met(code: u8, c: bool, ics: bool) -> bool
     ensures { result ≡ condition_met code c ics }
 {

@@ -1,4 +1,6 @@
 // The service profile of plants' microcode: four rules, over the bytes of words.
+#![tactic(auto)]
+
 ghost use Rattle.std.specs.Prelude.{◌≡◌, ◌≤◌};
 ghost use Rattle.choose.specs.Below.{firsts};
 ghost use Rattle.numbers.specs.Numbers.{word_at};
@@ -30,6 +32,7 @@ fn within(first: u8, last: u8, top: u8) -> bool
 }
 
 // An unlisted code, and CAD.
+#[tactic(auto, unfolding(crate::specs::Profile::no_run))]
 fn no_run(top: u8) -> bool
     ensures { result ≡ no_run top }
 {
@@ -37,6 +40,7 @@ fn no_run(top: u8) -> bool
 }
 
 // The first rule that a word at an address breaks, or 0.
+#[tactic(auto, unfolding(crate::specs::Profile::rule_of))]
 pub fn rule_broken(address: u32, word: u32) -> u32
     ensures { result ≡ rule_of address word }
 {
@@ -58,6 +62,7 @@ pub fn rule_broken(address: u32, word: u32) -> u32
 }
 
 // The lowest address of n words that breaks a rule.
+#[tactic(auto, unfolding(numbers::specs::Numbers::word_at))]
 fn first_broken(words: &[u8], n: u32) -> Report
     requires { n ≤ 2048 }
     ensures { result ≡ broken_from 0 (firsts (word_at words.now) 0 n) }
@@ -75,6 +80,7 @@ fn first_broken(words: &[u8], n: u32) -> Report
 
 // 2 is the lister's own.
 #[unsafe(no_mangle)]
+#[tactic(auto, unfolding(crate::specs::Profile::profile_of))]
 pub extern "C" fn profile(words: &[u8]) -> Report
     ensures { result ≡ profile_of words.now }
 {

@@ -1,1 +1,3 @@
 // Laws of the service profile: no code.
+#![tactic(auto)]
+

@@ -1,5 +1,7 @@
 // Holds words to the service profile, those of a deck on standard input or the words themselves: writes `accepted`, or to standard
 // error what is refused.
+#![tactic(auto)]
+
 use code::Apart;
 use libc::{STDERR_FILENO, STDIN_FILENO, STDOUT_FILENO};
 use state_bytes::STATE_BYTES;

@@ -1,5 +1,7 @@
 // Writes docs/REQUIREMENTS.md: one requirement for each listed instruction, from the proved table. Standard input gives
 // the number of vectors of each top byte, 256 bytes.
+#![tactic(auto)]
+
 use code::{Apart, Class, CodeRow};
 use libc::{STDIN_FILENO, STDOUT_FILENO};
 use state::Bus;

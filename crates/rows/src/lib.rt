@@ -1,4 +1,6 @@
 // Translation rows: a rows section made a table, the range test of a row, and the outputs of all rows that match.
+#![tactic(auto)]
+
 ghost use Rattle.std.specs.Prelude.{◌≡◌, ◌≤◌, length};
 ghost use Rattle.rows.specs.Scan.{none, lta, lra, ltsr};
 ghost use Rattle.rows.specs.Section.{row_from};
@@ -52,6 +54,7 @@ pub struct Packed {
 }
 
 // LC in bits 0-10, RNI in 11, TSR bits 1-0 in 12-13, I0-I6 in 14-20, the TR byte above them.
+#[tactic(auto, unfolding(crate::specs::Packing::side_by_side))]
 fn side_by_side(lc: u16, rni: u8, tr: u8, tsr: u8, interrupts: u8) -> u32
     ensures { result ≡ side_by_side lc rni tr tsr interrupts }
 {
@@ -68,6 +71,7 @@ pub fn key(i: Inputs) -> u32
     side_by_side(i.lc, i.rni, i.tr, i.tsr, i.interrupts)
 }
 
+#[tactic(auto, unfolding(crate::specs::Packing::packed_of))]
 fn pack(row: Row) -> Packed
     ensures { result ≡ packed_of row }
 {
@@ -93,6 +97,7 @@ fn pack(row: Row) -> Packed
 }
 
 // One AND and one comparison: no value has a bit outside its mask.
+#[tactic(auto, unfolding(crate::specs::Packing::matched_in))]
 pub fn matched(row: Packed, key: u32) -> bool
     ensures { result ≡ matched_in row key }
 {
@@ -100,6 +105,7 @@ pub fn matched(row: Packed, key: u32) -> bool
 }
 
 // The outputs so far, with those of one more row if it matches.
+#[tactic(auto, unfolding(crate::specs::Packing::merged_in))]
 pub fn merged(o: u32, row: Packed, key: u32) -> u32
     ensures { result ≡ merged_in o row key }
 {
@@ -172,6 +178,7 @@ pub fn ltsr(o: Outputs) -> bool
 }
 
 // No mask of the row has an unused bit.
+#[tactic(auto, unfolding(crate::specs::Range::masks_fit))]
 fn masks_fit(row: Row) -> bool
     ensures { result ≡ masks_fit row }
 {
@@ -179,6 +186,7 @@ fn masks_fit(row: Row) -> bool
 }
 
 // No output of the row has an unused bit.
+#[tactic(auto, unfolding(crate::specs::Range::outputs_fit))]
 fn outputs_fit(row: Row) -> bool
     ensures { result ≡ outputs_fit row }
 {
@@ -186,6 +194,7 @@ fn outputs_fit(row: Row) -> bool
 }
 
 // No value of the row has a bit outside its mask.
+#[tactic(auto, unfolding(crate::specs::Range::values_in_masks))]
 fn values_in_masks(row: Row) -> bool
     ensures { result ≡ values_in_masks row }
 {
@@ -196,12 +205,14 @@ fn values_in_masks(row: Row) -> bool
         & ((row.interrupt_value & row.interrupt_mask) == row.interrupt_value)
 }
 
+#[tactic(auto, unfolding(crate::specs::Range::row_in_range))]
 pub fn in_range(row: Row) -> bool
     ensures { result ≡ row_in_range row }
 {
     masks_fit(row) & outputs_fit(row) & values_in_masks(row)
 }
 
+#[tactic(auto, unfolding(crate::specs::Section::row_from))]
 fn row_from(s: &[u8], a: usize) -> Row
     requires { a ≤ length s.now }
     ensures { result ≡ row_from s.now a }

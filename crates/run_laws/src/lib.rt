@@ -1,1 +1,3 @@
 // Laws of a whole run and of the host's entry: no code.
+#![tactic(auto)]
+

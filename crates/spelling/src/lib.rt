@@ -1,4 +1,6 @@
 // The line of a listed word, in the fixed spelling.
+#![tactic(auto)]
+
 ghost use Rattle.std.specs.Prelude.{◌≡◌, [], ◌∷◌, ◌+◌, ◌*◌, ◌≤◌};
 ghost use Rattle.spelling.specs.Laid.{Laid};
 ghost use Rattle.spelling.specs.Spelling.{hex_digit, digit_if, digits_of, letter_if, letters_of, operand_of, operands_of, mark_of, user_name, marks_of, spelled_of};
@@ -15,6 +17,7 @@ fn put(line: &mut [u8; 40], at: usize, b: u8) -> usize
 }
 
 // The last digit of a number.
+#[tactic(auto, unfolding(crate::specs::Spelling::hex_digit))]
 pub fn hex_digit(d: u32) -> u8
     ensures { result ≡ hex_digit d }
 {
@@ -36,6 +39,7 @@ fn digit_if(line: &mut [u8; 40], at: usize, given: bool, d: u32) -> usize
 }
 
 // The last digits of a number.
+#[tactic(auto, unfolding(crate::specs::Spelling::digits_of))]
 fn number(line: &mut [u8; 40], at: usize, digits: u8, n: u32) -> usize
     requires { at + 3 ≤ 40 }
     ensures { Laid line.old at (digits_of digits n) 3 line.new result }
@@ -57,6 +61,7 @@ fn letter_if(line: &mut [u8; 40], at: usize, c: u32) -> usize
 }
 
 // The letters of a name; a name has no space between two.
+#[tactic(auto, unfolding(crate::specs::Spelling::letters_of))]
 fn letters(line: &mut [u8; 40], at: usize, name: u32) -> usize
     requires { at + 4 ≤ 40 }
     ensures { Laid line.old at (letters_of name) 4 line.new result }
@@ -79,6 +84,7 @@ fn operand(line: &mut [u8; 40], at: usize, given: bool, digits: u8, n: u32) -> u
 }
 
 // The operands that are needed, and the don't-care one when it isn't zero.
+#[tactic(auto, unfolding(crate::specs::Spelling::operands_of))]
 fn operands(line: &mut [u8; 40], at: usize, form: Form, low: u32) -> usize
     requires { at + 8 ≤ 40 }
     ensures { Laid line.old at (operands_of form low) 8 line.new result }
@@ -112,12 +118,14 @@ fn mark(line: &mut [u8; 40], at: usize, given: bool, name: u32) -> usize
     at
 }
 
+#[tactic(auto, unfolding(crate::specs::Spelling::user_name))]
 fn user_name(user: u8) -> u32
     ensures { result ≡ user_name user }
 {
     0x5500_2020 + hex_digit(user as u32) as u32 * 0x1_0000
 }
 
+#[tactic(auto, unfolding(crate::specs::Spelling::marks_of))]
 fn marks(line: &mut [u8; 40], at: usize, f: Fields) -> usize
     requires { at + 20 ≤ 40 }
     ensures { Laid line.old at (marks_of f) 20 line.new result }
@@ -129,6 +137,7 @@ fn marks(line: &mut [u8; 40], at: usize, f: Fields) -> usize
 }
 
 // Puts the line of a word's fields at an address to the beginning of `line`, and tells its length.
+#[tactic(auto, unfolding(crate::specs::Spelling::spelled_of))]
 pub fn spelled(address: u32, f: Fields, line: &mut [u8; 40]) -> usize
     ensures { Laid line.old 0 (spelled_of address f) 37 line.new result }
 {

@@ -1,4 +1,6 @@
 // The state: the register file, lent, and all the rest by value, in parts that an attempt writes one by one.
+#![tactic(auto)]
+
 ghost use Rattle.std.specs.Prelude.{◌≡◌, ◌<◌, ◌≤◌};
 ghost use Rattle.state.specs.File.{slot_of, high_of, register_of, written_of};
 ghost use Rattle.state.specs.FlagByte.{nibble_of, flag_byte_of, flags_of};
@@ -59,6 +61,7 @@ pub fn is_marking(number: u32) -> bool
 }
 
 // The marking of a number that is one.
+#[tactic(auto, unfolding(crate::specs::Marking::marking_of))]
 pub fn marking_of(number: u32) -> Marking
     ensures { result ≡ marking_of number }
 {
@@ -81,6 +84,7 @@ pub struct Sample {
 }
 
 // The place of designator d in the file: G0-GB stand first, then R2-RF, of which RC-RF are GC-GF too.
+#[tactic(auto, unfolding(crate::specs::File::slot_of))]
 pub fn slot(g: u8, d: u8) -> usize
     ensures { (result ≡ slot_of g d) × (result < 26) }
 {
@@ -96,12 +100,14 @@ pub fn slot(g: u8, d: u8) -> usize
 }
 
 // The designator of a pair's high byte: the low one's with its lowest bit inverted.
+#[tactic(auto, unfolding(crate::specs::File::high_of))]
 pub fn high(d: u8) -> u8
     ensures { result ≡ high_of d }
 {
     d % 16 ^ 1
 }
 
+#[tactic(auto, unfolding(crate::specs::File::register_of))]
 pub fn register(file: &[u8; 26], g: u8, d: u8) -> u8
     ensures { result ≡ register_of file.now g d }
 {
@@ -109,6 +115,7 @@ pub fn register(file: &[u8; 26], g: u8, d: u8) -> u8
     file[i]
 }
 
+#[tactic(auto, unfolding(crate::specs::File::written_of))]
 pub fn write(file: &mut [u8; 26], g: u8, d: u8, value: u8)
     ensures { file.new ≡ written_of file.old g d value }
 {
@@ -116,12 +123,14 @@ pub fn write(file: &mut [u8; 26], g: u8, d: u8, value: u8)
     file[i] = value;
 }
 
+#[tactic(auto, unfolding(crate::specs::FlagByte::nibble_of))]
 pub fn nibble(a: bool, b: bool, c: bool, d: bool) -> u8
     ensures { (result ≡ nibble_of a b c d) × (result ≤ 15) }
 {
     bit_of(a) * 8 + bit_of(b) * 4 + bit_of(c) * 2 + bit_of(d)
 }
 
+#[tactic(auto, unfolding(crate::specs::FlagByte::flag_byte_of))]
 pub fn flag_byte(f: Flags) -> u8
     ensures { result ≡ flag_byte_of f }
 {
@@ -130,6 +139,7 @@ pub fn flag_byte(f: Flags) -> u8
     conditions * 16 + status
 }
 
+#[tactic(auto, unfolding(crate::specs::FlagByte::flags_of))]
 pub fn flags_in(byte: u8) -> Flags
     ensures { result ≡ flags_of byte }
 {

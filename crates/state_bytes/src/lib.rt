@@ -1,4 +1,6 @@
 // The state between its bytes and the register file with the core, and the range of each.
+#![tactic(auto)]
+
 ghost use Rattle.std.specs.Prelude.{◌≡◌, ◌+◌, ◌≤◌, length};
 ghost use Rattle.state_bytes.specs.Bytes.{address_of, bus_of, latches_of, core_of, Loaded, tail_of, stored_of};
 ghost use Rattle.state_bytes.specs.Filled.{filled_of};
@@ -9,6 +11,7 @@ use state::{Address, Bus, Core, Latches, Marking};
 // How many bytes a state has, in a deck and in the host's buffer.
 pub const STATE_BYTES: usize = 42;
 
+#[tactic(auto, unfolding(crate::specs::Bytes::address_of))]
 fn address_in(s: &[u8]) -> Address
     ensures { result ≡ address_of s.now }
 {
@@ -19,6 +22,7 @@ fn address_in(s: &[u8]) -> Address
     }
 }
 
+#[tactic(auto, unfolding(crate::specs::Bytes::bus_of))]
 fn bus_in(s: &[u8]) -> Bus
     ensures { result ≡ bus_of s.now }
 {
@@ -30,6 +34,7 @@ fn bus_in(s: &[u8]) -> Bus
     }
 }
 
+#[tactic(auto, unfolding(crate::specs::Bytes::latches_of))]
 fn latches_in(s: &[u8]) -> Latches
     ensures { result ≡ latches_of s.now }
 {
@@ -44,6 +49,7 @@ fn latches_in(s: &[u8]) -> Latches
     }
 }
 
+#[tactic(auto, unfolding(crate::specs::Bytes::core_of))]
 fn core_in(s: &[u8], marking: Marking) -> Core
     ensures { result ≡ core_of s.now marking }
 {
@@ -62,6 +68,7 @@ fn core_in(s: &[u8], marking: Marking) -> Core
 }
 
 // The first n bytes of src, zeros where it has fewer, go into dst from byte at on.
+#[tactic(auto, unfolding(crate::specs::Filled::filled_of))]
 fn fill(dst: &mut [u8], at: usize, src: &[u8], n: usize)
     requires { at + n ≤ length dst.old }
     ensures { dst.new ≡ filled_of dst.old at src.now n }
@@ -82,6 +89,7 @@ pub fn load(s: &[u8], marking: Marking, file: &mut [u8; 26]) -> Core
 }
 
 // The bytes after the registers.
+#[tactic(auto, unfolding(crate::specs::Bytes::tail_of))]
 fn tail(core: Core) -> [u8; 16]
     ensures { result ≡ tail_of core }
 {
@@ -120,18 +128,21 @@ pub fn store(core: Core, file: &[u8; 26], out: &mut [u8])
     }
 }
 
+#[tactic(auto, unfolding(crate::specs::Range::address_in_range))]
 fn address_in_range(a: Address) -> bool
     ensures { result ≡ address_in_range a }
 {
     (a.lc <= 2047) & (a.rr <= 2047) & (a.tsr <= 7)
 }
 
+#[tactic(auto, unfolding(crate::specs::Range::latches_in_range))]
 fn latches_in_range(l: Latches) -> bool
     ensures { result ≡ latches_in_range l }
 {
     (l.g <= 7) & (l.interrupts <= 7) & (l.marked | (l.modification == 0))
 }
 
+#[tactic(auto, unfolding(crate::specs::Range::core_in_range))]
 fn core_in_range(core: Core) -> bool
     ensures { result ≡ core_in_range core }
 {
@@ -141,6 +152,7 @@ fn core_in_range(core: Core) -> bool
 }
 
 // The unused bits of marks are tested apart: the core does not hold them. Every marking has the same range.
+#[tactic(auto, unfolding(crate::specs::Range::state_in_range))]
 pub fn in_range(s: &[u8]) -> bool
     ensures { result ≡ state_in_range s.now }
 {
