@@ -9,7 +9,7 @@ use choose::bit_of;
 
 // What a byte cycle gives: the result, the carries out of positions 3 and 7, V, and what C becomes.
 #[repr(C)]
-#[derive(Drop)]
+#[derive(Clone, Copy)]
 pub struct Cycle {
     pub result: u8,
     pub c4: bool,
@@ -19,7 +19,7 @@ pub struct Cycle {
 }
 
 // Condition flags N Z V C and status flags NB ZB C4 C8, in the order of the flag byte.
-#[derive(Drop)]
+#[derive(Clone, Copy)]
 pub struct Flags {
     pub n: bool,
     pub z: bool,
@@ -32,7 +32,7 @@ pub struct Flags {
 }
 
 // What a byte cycle does with its operands.
-#[derive(Drop)]
+#[derive(Clone, Copy)]
 pub enum Kind {
     Add,
     Subtract,

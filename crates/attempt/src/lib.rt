@@ -14,7 +14,7 @@ use rows::{Inputs, Outputs};
 use state::{Address, Bus, Core, Latches, Sample};
 
 // What an executed instruction does, but for the next address.
-#[derive(Drop)]
+#[derive(Clone, Copy)]
 pub struct Effect {
     pub flags: Flags,
     pub bus: Bus,
@@ -24,7 +24,7 @@ pub struct Effect {
 }
 
 // What an attempt leaves besides the file: the rest of the state, its request and microcycles; or the number of its refusal, not 0.
-#[derive(Drop)]
+#[derive(Clone, Copy)]
 pub struct Outcome {
     pub core: Core,
     pub request: u32,

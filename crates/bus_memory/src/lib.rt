@@ -8,7 +8,7 @@ use state::Sample;
 
 // The address of the last read or write that was accepted, if there was one, how many attempts are still to see REPLY low, and
 // how many waits of IB, IW, OB and OW have come in a row, up to 32.
-#[derive(Drop)]
+#[derive(Clone, Copy)]
 pub struct Kept {
     pub accessed: bool,
     pub address: u16,

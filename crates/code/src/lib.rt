@@ -11,7 +11,7 @@ use choose::bit_of;
 mod table;
 
 // Manual 5.2's four classes of instruction, which are its formats.
-#[derive(Drop)]
+#[derive(Clone, Copy)]
 pub enum Class {
     Unlisted,
     Jump,
@@ -21,7 +21,7 @@ pub enum Class {
 }
 
 // What the top byte alone decides. All fields of an unlisted one are 0.
-#[derive(Drop)]
+#[derive(Clone, Copy)]
 pub struct CodeRow {
     pub class: Class,
     pub cycles: u8,
@@ -36,7 +36,7 @@ pub struct CodeRow {
 }
 
 // What stands in the places of the format: an address, a literal with a register, or two designators.
-#[derive(Drop)]
+#[derive(Clone, Copy)]
 pub enum Operands {
     Jump(u16),
     Literal { value: u8, reg: u8 },
@@ -44,7 +44,7 @@ pub enum Operands {
 }
 
 // A listed word. The code is the instruction's first top byte: 00 JMP, 08 RFS, 20 AL, 30 CL, 40 NL, 50 TL, 60 LL; all others have one only.
-#[derive(Drop)]
+#[derive(Clone, Copy)]
 pub struct Fields {
     pub code: u8,
     pub class: Class,
@@ -54,7 +54,7 @@ pub struct Fields {
     pub user: u8,
 }
 
-#[derive(Drop)]
+#[derive(Clone, Copy)]
 pub enum Apart {
     Word(Fields),
     OutOfRange,
@@ -62,7 +62,7 @@ pub enum Apart {
 }
 
 // Malformed: no listed word has these fields.
-#[derive(Drop)]
+#[derive(Clone, Copy)]
 pub enum Together {
     Word(u32),
     Malformed,

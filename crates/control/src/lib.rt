@@ -199,7 +199,7 @@ pub fn latches_after_load(l: Latches, code: u8, pair: u16) -> Latches
 }
 
 // Where an instruction goes: a taken jump, the return from a subroutine, or on, by the rows or to the next word.
-#[derive(Drop)]
+#[derive(Clone, Copy)]
 pub enum Way {
     Jump(u16),
     Return,

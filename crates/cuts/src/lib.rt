@@ -1,3 +1,2 @@
 // Laws of a run whose samples are cut: no code.
 #![tactic(auto)]
-

@@ -7,7 +7,7 @@ ghost use Rattle.cycles.specs.Cycles.{operand_of};
 use alu::Kind;
 
 // What a cycle takes for an operand: Ra, Rb, or a byte of a number, its low byte in a low cycle.
-#[derive(Drop)]
+#[derive(Clone, Copy)]
 pub enum Operand {
     A,
     B,
@@ -15,7 +15,7 @@ pub enum Operand {
 }
 
 // What an instruction's cycles do: the kind, Ra's side and Rb's side, the first carry in, and whether Ra is written.
-#[derive(Drop)]
+#[derive(Clone, Copy)]
 pub struct Plan {
     pub kind: Kind,
     pub p: Operand,
@@ -25,7 +25,7 @@ pub struct Plan {
 }
 
 // The designators of one cycle.
-#[derive(Drop)]
+#[derive(Clone, Copy)]
 pub struct Designators {
     pub a: u8,
     pub b: u8,

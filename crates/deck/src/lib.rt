@@ -13,7 +13,7 @@ use state::Sample;
 use state_bytes::STATE_BYTES;
 
 // Where the sections after the words start, each at its count, and where the last one ends.
-#[derive(Drop)]
+#[derive(Clone, Copy)]
 pub struct Layout {
     pub rows: usize,
     pub state: usize,
@@ -167,7 +167,7 @@ pub fn rows_in_range(part: &[u8]) -> bool
 }
 
 // A deck looked through before its first attempt: the refusal, or 0, and its layout.
-#[derive(Drop)]
+#[derive(Clone, Copy)]
 pub struct Opened {
     pub refusal: u8,
     pub layout: Layout,

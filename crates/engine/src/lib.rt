@@ -22,7 +22,7 @@ fn put4(b: &mut [u8], at: usize, x: u32)
 }
 
 // What a run leaves besides the registers and the places.
-#[derive(Drop)]
+#[derive(Clone, Copy)]
 pub struct RunEnd {
     pub core: Core,
     pub answer: u8,
@@ -133,7 +133,7 @@ fn attempts(
 }
 
 #[repr(C)]
-#[derive(Drop)]
+#[derive(Clone, Copy)]
 pub struct Report {
     pub answer: u32,
     pub attempts: u32,

@@ -18,7 +18,7 @@ pub const RR: u32 = 0x52_52_20_20;
 pub const RNI: u32 = 0x52_4E_49_20;
 
 // The operands of an instruction, as they are typed.
-#[derive(Drop)]
+#[derive(Clone, Copy)]
 pub struct Form {
     // How many digits the first has: 3 for 11 bits, 2 for 8, 1 for 4.
     pub first: u8,

@@ -13,7 +13,7 @@ use forms::{Form, ODD, RNI, RR};
 use pieces::Piece;
 
 // The marks of a line. `user` is 0x10 where there is no U; `good` is false once a piece is no mark or a mark comes again.
-#[derive(Drop)]
+#[derive(Clone, Copy)]
 pub struct Marks {
     pub good: bool,
     pub odd: bool,
@@ -23,7 +23,7 @@ pub struct Marks {
 }
 
 // What stands after a mnemonic: how many operands, two at most; the operands, 0 for one that isn't there; the marks.
-#[derive(Drop)]
+#[derive(Clone, Copy)]
 pub struct Tail {
     pub count: u8,
     pub first: u16,
@@ -31,7 +31,7 @@ pub struct Tail {
     pub marks: Marks,
 }
 
-#[derive(Drop)]
+#[derive(Clone, Copy)]
 pub enum Line {
     Bad(u32),
     Word { address: u32, word: u32 },

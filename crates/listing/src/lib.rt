@@ -18,7 +18,7 @@ const NOP: u32 = 0xFF00;
 
 // The number; the line for 10-12, the word's address for 2 and 6, else 0; the bytes written, or with 27 needed, else 0.
 #[repr(C)]
-#[derive(Drop)]
+#[derive(Clone, Copy)]
 pub struct Report {
     pub answer: u32,
     pub at: u32,

@@ -1,3 +1,2 @@
 // Laws of the chip's marking: no code.
 #![tactic(auto)]
-

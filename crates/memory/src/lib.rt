@@ -19,7 +19,7 @@ use rows::Outputs;
 use state::{Core, Sample};
 
 // What a run with a memory leaves besides the registers, the places and the memory's bytes.
-#[derive(Drop)]
+#[derive(Clone, Copy)]
 pub struct Ran {
     pub end: RunEnd,
     pub kept: Kept,

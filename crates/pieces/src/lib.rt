@@ -33,7 +33,7 @@ fn piece_start(line: &[u8], at: usize) -> usize
 }
 
 // A piece is line[from..to]; where there is none both are the line's end.
-#[derive(Drop)]
+#[derive(Clone, Copy)]
 pub struct Piece {
     pub from: usize,
     pub to: usize,

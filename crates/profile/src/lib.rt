@@ -8,7 +8,7 @@ ghost use Rattle.profile.specs.Profile.{report_of, within, no_run, rule_of, brok
 
 // The answer is 0, 2 with the lister's address, or 25 with the first offending address and the first rule broken there; address and rule are otherwise 0.
 #[repr(C)]
-#[derive(Drop)]
+#[derive(Clone, Copy)]
 pub struct Report {
     pub answer: u32,
     pub address: u32,

@@ -1,3 +1,2 @@
 // Laws of the service profile: no code.
 #![tactic(auto)]
-

@@ -9,7 +9,7 @@ ghost use Rattle.rows.specs.Table.{whole_rows, table_of};
 ghost use Rattle.rows.specs.Range.{masks_fit, outputs_fit, values_in_masks, row_in_range};
 
 // A row as its sixteen bytes give it, in their order.
-#[derive(Drop)]
+#[derive(Clone, Copy)]
 pub struct Row {
     pub lc_mask: u16,
     pub lc_value: u16,
@@ -28,7 +28,7 @@ pub struct Row {
 
 // What rows are matched against, all as before the attempt: rni is bit 17 of the word, tr the selected TR byte,
 // tsr TSR bits 1-0, and interrupts has I0-I6 in bits 0-6.
-#[derive(Drop)]
+#[derive(Clone, Copy)]
 pub struct Inputs {
     pub lc: u16,
     pub rni: u8,
@@ -38,7 +38,7 @@ pub struct Inputs {
 }
 
 // What the matching rows give: the address for LTA, the lines (bit 0 LTA, 1 LRA, 2 LTSR), the new TSR for LTSR.
-#[derive(Drop)]
+#[derive(Clone, Copy)]
 pub struct Outputs {
     pub address: u16,
     pub lines: u8,
@@ -46,7 +46,7 @@ pub struct Outputs {
 }
 
 // A row made ready for matching: its masks side by side in one number, its values in another, its outputs in a third.
-#[derive(Drop)]
+#[derive(Clone, Copy)]
 pub struct Packed {
     pub mask: u32,
     pub value: u32,

@@ -10,7 +10,7 @@ use alu::Flags;
 use choose::bit_of;
 
 // What tells the next word: location counter, return register, translation state register.
-#[derive(Drop)]
+#[derive(Clone, Copy)]
 pub struct Address {
     pub lc: u16,
     pub rr: u16,
@@ -18,7 +18,7 @@ pub struct Address {
 }
 
 // What stands on the bus: M, SYNC and IACK.
-#[derive(Drop)]
+#[derive(Clone, Copy)]
 pub struct Bus {
     pub m: u16,
     pub sync: bool,
@@ -26,7 +26,7 @@ pub struct Bus {
 }
 
 // What else the instructions load: G, TR, ICS, the internal interrupts I4-I6 and the waiting modification, 0 when unmarked.
-#[derive(Drop)]
+#[derive(Clone, Copy)]
 pub struct Latches {
     pub modification: u16,
     pub marked: bool,
@@ -37,14 +37,14 @@ pub struct Latches {
 }
 
 // What is printed on the control chip: CP1661B is the base, CP1621B has Q1.
-#[derive(Drop)]
+#[derive(Clone, Copy)]
 pub enum Marking {
     CP1661B,
     CP1621B,
 }
 
 // The outputs are the user's four, bits 18-21 of the last executed word. The marking is the set's own: a run names it, and no attempt changes it.
-#[derive(Drop)]
+#[derive(Clone, Copy)]
 pub struct Core {
     pub flags: Flags,
     pub address: Address,
@@ -72,7 +72,7 @@ pub fn marking_of(number: u32) -> Marking
 }
 
 // The lines as one attempt samples them; interrupts are I0-I3.
-#[derive(Drop)]
+#[derive(Clone, Copy)]
 pub struct Sample {
     pub reply: bool,
     pub dal: u16,
