@@ -69,7 +69,6 @@ pub enum Together {
 }
 
 // The class of a top byte.
-#[tactic(auto, unfolding(crate::specs::CodeRows::class_of))]
 pub fn class_of(top: u8) -> Class
     ensures { result ≡ class_of top }
 {
@@ -97,7 +96,6 @@ pub fn rows() -> [u32; 256]
     table::ROWS
 }
 
-#[tactic(auto, unfolding(crate::specs::Entries::class_at))]
 fn class_at(n: u32) -> Class
     ensures { result ≡ class_at n }
 {
@@ -128,6 +126,7 @@ pub fn row_in(rows: &[u32; 256], top: u8) -> CodeRow
     }
 }
 
+#[tactic(auto, using(crate::proofs::Digits::row_at))]
 pub fn row_of(top: u8) -> CodeRow
     ensures { result ≡ row_of top }
 {
@@ -191,6 +190,7 @@ fn target_in(class: Class, word: u32) -> u16
     }
 }
 
+#[tactic(auto, unfolding(crate::specs::Word::operands_in))]
 pub fn operands_in(class: Class, word: u32) -> Operands
     ensures { result ≡ operands_in class word }
 {
@@ -233,6 +233,7 @@ pub fn taken_apart_as(class: Class, word: u32) -> Apart
     })
 }
 
+#[tactic(auto, unfolding(crate::specs::Word::apart_as, crate::specs::Word::apart_of))]
 pub fn taken_apart(word: u32) -> Apart
     ensures { result ≡ apart_of word }
 {
