@@ -1,5 +1,4 @@
 pub mod Steps
-pub mod Lent
 pub mod Laws
 pub mod Order
 pub mod Matching
