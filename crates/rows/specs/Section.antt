@@ -1,5 +1,5 @@
 -- The rows section of a deck: "Rows: 16 bytes", "low first".
-use Rattle.std.specs.Prelude.{List, [], ◌∷◌, ◌++◌, ℕ, zero, suc, ◌+◌, ◌-◌, ◌*◌}
+use Rattle.std.specs.Prelude.{List, [], ◌∷◌, ◌++◌, ℕ, zero, suc, ◌+◌, ◌*◌}
 use Rattle.numbers.specs.Numbers.{byte_at, pair_at}
 use Rattle.rows.specs.declared.Row.{Row}
 

@@ -1,4 +1,4 @@
-use Rattle.std.proofs.Common.{◌-◌, ◌≡◌, ◌≤◌, length, drop}
+use Rattle.std.proofs.Common.{◌-◌, ◌≡◌, ◌≤◌, drop}
 use Rattle.rows.specs.Packing.{scanned_in}
 use Rattle.rows.proofs.scan.Given as goal
 
