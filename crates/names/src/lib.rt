@@ -13,7 +13,6 @@ pub fn names() -> [u32; 256]
     table::NAMES
 }
 
-#[tactic(auto, unfolding(crate::specs::Mnemonics::all_mnemonics))]
 pub fn mnemonic_of(top: u8) -> u32
     ensures { result ≡ mnemonic_of top }
 {
