@@ -40,7 +40,6 @@ pub fn refusal(size: usize, delay: u32) -> u8
 }
 
 // Requests 1-4 are reads and writes.
-#[tactic(auto, unfolding(crate::specs::Memory::accesses))]
 fn accesses(request: u32) -> bool
     ensures { result ≡ accesses request }
 {
@@ -53,7 +52,6 @@ fn accesses(request: u32) -> bool
 }
 
 // IB and IW.
-#[tactic(auto, unfolding(crate::specs::Memory::takes_in))]
 fn takes_in(code: u8) -> bool
     ensures { result ≡ takes_in code }
 {
@@ -65,7 +63,6 @@ fn takes_in(code: u8) -> bool
 }
 
 // IB, IW, OB and OW.
-#[tactic(auto, unfolding(crate::specs::Memory::transfers))]
 pub fn transfers(code: u8) -> bool
     ensures { result ≡ transfers code }
 {
