@@ -31,7 +31,6 @@ pub struct Form {
 }
 
 // The bits that the summary marks x.
-#[tactic(auto, unfolding(crate::specs::Forms::spare_of))]
 fn spare(top: u8) -> u16
     ensures { result ≡ spare_of top }
 {
@@ -110,7 +109,6 @@ pub fn form_of(top: u8) -> Form
 }
 
 // How many values an operand of so many digits has.
-#[tactic(auto, unfolding(crate::specs::Forms::limit_of))]
 pub fn limit(digits: u8) -> u16
     ensures { result ≡ limit_of digits }
 {
@@ -183,7 +181,7 @@ pub fn top_named(name: u32) -> usize
 }
 
 // Whether the code after this one has the same mnemonic, and is its odd twin.
-#[tactic(auto, unfolding(crate::specs::Named::twinned, code::specs::CodeRows::class_of, names::specs::Mnemonics::mnemonic_of, choose::specs::Ranged::ranged))]
+#[tactic(auto, unfolding(crate::specs::Named::twinned))]
 pub fn has_twin(top: u8) -> bool
     ensures { result ≡ twinned top }
 {
