@@ -20,7 +20,7 @@ use Rattle.forms.specs.Forms.{spare_of, form_of, limit_of, joined_of}
 use Rattle.forms.specs.Named.{twinned}
 use Rattle.forms.specs.declared.Form.{Form}
 use Rattle.forms.proofs.Names.{names}
-use Rattle.forms.proofs.Operands.{Spans, one, a-last, a_first, joined, form-spans}
+use Rattle.forms.proofs.Operands.{Spans, one, a-last, a-first, joined, form-spans}
 use Rattle.pieces.specs.Parts.{piece_of}
 use Rattle.pieces.specs.Read.{upper_of, letter_of, name_of, digit_of, digits, value_from, value_of, is_number}
 use Rattle.pieces.proofs.Laws.{cases, number-le, number_digits}
@@ -195,7 +195,7 @@ limit-range d = go (ltb d 1) (ltb d 2) (ltb d 3)
 spans-two : {form : Form} {n : ℕ} → Spans form n → form.second ≤ 1
 spans-two one = omega arith
 spans-two a-last = omega arith
-spans-two a_first = omega arith
+spans-two a-first = omega arith
 
 -- the one after those needed is the don't-care operand
 most-operands : (top : ℕ) → top < 0x100 → listed (class_of top) ≡ true → most_of top ≡ 1 + (form_of top).second
