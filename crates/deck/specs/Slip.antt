@@ -1,5 +1,5 @@
 -- "Numbers on the refusal slip", those before the first attempt: what each is given for, in 01's words, and their order.
-use Rattle.std.specs.Prelude.{ℕ, ◌+◌, ◌*◌, ◌/◌, ◌%◌, ◌^◌, ◌<◌, ◌≤◌, ◌≡◌, List, [], ◌∷◌, ◌++◌, ◌⊎◌, length}
+use Rattle.std.specs.Prelude.{ℕ, ◌*◌, ◌/◌, ◌%◌, ◌^◌, ◌<◌, ◌≤◌, ◌≡◌, List, [], ◌∷◌, ◌++◌, ◌⊎◌, length}
 use Rattle.numbers.specs.Laid.{LaidWithin}
 use Rattle.numbers.specs.Numbers.{word_at}
 use Rattle.rows.specs.Matching.{RowInRange}
