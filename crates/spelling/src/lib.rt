@@ -84,7 +84,6 @@ fn operand(line: &mut [u8; 40], at: usize, given: bool, digits: u8, n: u32) -> u
 }
 
 // The operands that are needed, and the don't-care one when it isn't zero.
-#[tactic(auto, unfolding(crate::specs::Spelling::operands_of))]
 fn operands(line: &mut [u8; 40], at: usize, form: Form, low: u32) -> usize
     requires { at + 8 ≤ 40 }
     ensures { Laid line.old at (operands_of form low) 8 line.new result }
@@ -125,7 +124,6 @@ fn user_name(user: u8) -> u32
     0x5500_2020 + hex_digit(user as u32) as u32 * 0x1_0000
 }
 
-#[tactic(auto, unfolding(crate::specs::Spelling::marks_of))]
 fn marks(line: &mut [u8; 40], at: usize, f: Fields) -> usize
     requires { at + 20 ≤ 40 }
     ensures { Laid line.old at (marks_of f) 20 line.new result }
@@ -137,7 +135,6 @@ fn marks(line: &mut [u8; 40], at: usize, f: Fields) -> usize
 }
 
 // Puts the line of a word's fields at an address to the beginning of `line`, and tells its length.
-#[tactic(auto, unfolding(crate::specs::Spelling::spelled_of))]
 pub fn spelled(address: u32, f: Fields, line: &mut [u8; 40]) -> usize
     ensures { Laid line.old 0 (spelled_of address f) 37 line.new result }
 {
