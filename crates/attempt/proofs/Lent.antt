@@ -149,10 +149,10 @@ module _ (xs : List ℕ) (k : Core) (s : Sample) where
 
   fetched-keeps : (t : Bool) (codes : List ℕ) (word : ℕ) (o : Outputs) → Keeps (pick t (word_by codes word o xs k s) (when_refused xs k 5))
   unfolding word_by
-  fetched-keeps true codes word o h =
-      let row = row_of_entry (get_or codes (top_of word) 0) in
-      taken-keeps (apart_as row.class word) row o h
-  fetched-keeps false codes word o h = refl
+  fetched-keeps true codes w o h =
+      let row = row_of_entry (get_or codes (top_of w) 0) in
+      taken-keeps (apart_as row.class w) row o h
+  fetched-keeps false codes w o h = refl
 
   sample-keeps : (reset compute : Bool) (e : Leaves Outcome) → Keeps e
       → Keeps (pick reset (when_idle xs (reset_of k) 11) (pick compute e (when_idle xs k 12)))
