@@ -71,7 +71,6 @@ fn fill(words: &mut [u8], next: u32, address: u32)
 }
 
 // Assembles a text up to its end or its first bad line, as far as there is room.
-#[tactic(auto, unfolding(crate::specs::Assembled::bytes_of))]
 fn assembled(text: &[u8], words: &mut [u8]) -> Report
     ensures { (result ≡ refusal_from 1 0 (lines_of text.now)) × (words.new ≡ sets words.old 0 (bytes_of (words_from 0 (lines_of text.now)))) }
 {
