@@ -1,6 +1,3 @@
-mod Again
-mod Callees
-mod Calls
 pub mod Loop
 pub mod Places
 pub mod Runs
