@@ -1,7 +1,7 @@
 -- Exactly: a case of Told holds of nothing but what is told and written, so no two cases hold at once. Assumes nothing.
-use Prim.Native.Nat.{ℕ, zero, suc, ◌+◌, ◌%◌, ◌<◌}
+use Prim.Native.Nat.{ℕ, zero, suc, ◌+◌, ◌<◌}
 use mathlib.Core.Path.{◌≡◌, refl, sym, ◌∙◌, ap}
-use mathlib.Core.Bool.{false, ◌&&◌}
+use mathlib.Core.Bool.{false}
 use mathlib.Core.List.{List, [], ◌∷◌}
 use mathlib.Core.Logic.{◌↔◌}
 use native.Mathlib.Nat.{add-zero}
@@ -69,6 +69,7 @@ place_none k i [] none = sym (add-zero i)
 place_none k i (x ∷ xs) none = rw (ne_eqb x k none.0) (omega (arith, place_none k (suc i) xs none.1))
 
 place-first : (k i : ℕ) (xs : List ℕ) (j : ℕ) → FirstAt k xs j → (place_from k i xs ≡ i + j) × (j < length xs)
+place-first k i [] j f = absurd f
 place-first k i (x ∷ xs) zero f = rw (eq-eqb x k f) (sym (add-zero i), omega arith)
 place-first k i (x ∷ xs) (suc j) f =
     let (there, within) = place-first k (suc i) xs j f.1 in

@@ -34,6 +34,7 @@ told-from line next (l ∷ ls) = go (λ n. told-from (line + 1) n ls) (line_of n
 -- the line that is told is the first bad one
 pub first-bad : (line next : ℕ) (ls : List (List ℕ)) (k n : ℕ) → FirstBad next ls k n → refusal_from line next ls ≡ report_of n (line + k) 0
 unfolding refusal_from
+first-bad line next [] k n e = absurd e
 first-bad line next (l ∷ ls) zero n e = rw (e, add-zero)
 first-bad line next (l ∷ ls) (suc k) n (a, w, e, f) =
     let p : line + 1 + k ≡ line + suc k = omega arith in
@@ -47,5 +48,6 @@ all-good line next (l ∷ ls) (a, w, e, g) = rw (e, all-good (line + 1) (a + 1) 
 
 -- its number is 10, 11 or 12
 pub bad-numbers : (next : ℕ) (ls : List (List ℕ)) (k n : ℕ) → FirstBad next ls k n → Number n
+bad-numbers next [] k n e = absurd e
 bad-numbers next (l ∷ ls) zero n e = bad-number next (pieces_of l) n e
 bad-numbers next (l ∷ ls) (suc k) n (a, w, e, f) = bad-numbers (a + 1) ls k n f
