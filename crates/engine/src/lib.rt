@@ -141,8 +141,7 @@ pub struct Report {
 }
 
 // The bench host's entry: a deck's bytes, a place of four bytes for each sample, a state's bytes for the state returned, and the chip's marking.
-#[unsafe(no_mangle)]
-pub extern "C" fn run(deck: &[u8], requests: &mut [u8], state: &mut [u8], marking: u32) -> Report
+pub fn run(deck: &[u8], requests: &mut [u8], state: &mut [u8], marking: u32) -> Report
     ensures { hosted result requests.new state.new ≡ host_of deck.now requests.old state.old marking }
 {
     let opened = deck::open(deck, requests.len(), state.len(), marking);

@@ -104,8 +104,7 @@ fn assembled(text: &[u8], words: &mut [u8]) -> Report
 }
 
 // Nothing is written before the whole text is known to be good and to have its room.
-#[unsafe(no_mangle)]
-pub extern "C" fn assemble(text: &[u8], words: &mut [u8]) -> Report
+pub fn assemble(text: &[u8], words: &mut [u8]) -> Report
     ensures { (result ≡ assembled_of text.now (length words.old)) × (words.new ≡ assembled_into text.now words.old) }
 {
     let mut scratch = [0u8; 1];
@@ -208,8 +207,7 @@ fn listed(words: &[u8], n: usize, text: &mut [u8]) -> usize
 }
 
 // Nothing is written before all words are known to be listed and to have their room.
-#[unsafe(no_mangle)]
-pub extern "C" fn list_words(words: &[u8], text: &mut [u8]) -> Report
+pub fn list_words(words: &[u8], text: &mut [u8]) -> Report
     ensures { (result ≡ listed_of words.now (length text.old)) × (text.new ≡ listed_into words.now text.old) }
 {
     let n = count(words);

@@ -227,8 +227,7 @@ fn refused(number: u8) -> Report
 
 // The bench host's entry with a memory on the bus: beside what a run takes, the memory's bytes and how many attempts after an
 // access see REPLY low. The samples are the external lines.
-#[unsafe(no_mangle)]
-pub extern "C" fn run_with_memory(
+pub fn run_with_memory(
     deck: &[u8],
     memory: &mut [u8],
     delay: u32,

@@ -79,9 +79,8 @@ fn first_broken(words: &[u8], n: u32) -> Report
 }
 
 // 2 is the lister's own.
-#[unsafe(no_mangle)]
 #[tactic(auto, using(crate::proofs::Laws::whole_words), unfolding(crate::specs::Profile::profile_of))]
-pub extern "C" fn profile(words: &[u8]) -> Report
+pub fn profile(words: &[u8]) -> Report
     ensures { result ≡ profile_of words.now }
 {
     let mut scratch = [0u8; 1];
