@@ -2,23 +2,19 @@
 #![tactic(auto)]
 
 use alu::{Flags, Kind};
-use libc::STDOUT_FILENO;
+use std::{fmt, io};
 
-fn flag(name: &[u8], on: bool) {
-    io::write_all(STDOUT_FILENO, name);
-    io::print_decimal(STDOUT_FILENO, on as u64);
-}
+// The flags that the cases are about, by name.
+#[derive(Clone, Copy)]
+struct Named(Flags);
 
-fn show(title: &[u8], res: u64, width: usize, f: Flags) {
-    io::write_all(STDOUT_FILENO, title);
-    io::print_hex(STDOUT_FILENO, res, width);
-    flag(b" C4 ", f.c4);
-    flag(b" C8 ", f.c8);
-    flag(b" N ", f.n);
-    flag(b" Z ", f.z);
-    flag(b" V ", f.v);
-    flag(b" C ", f.c);
-    io::write_all(STDOUT_FILENO, b"\n");
+impl fmt::Display for Named {
+    fn fmt<W: fmt::Write>(&self, f: &mut fmt::Formatter<W>) -> fmt::Result {
+        let flags = self.0;
+        write!(f, "C4 {} C8 {} ", flags.c4 as u8, flags.c8 as u8)?;
+        write!(f, "N {} Z {} ", flags.n as u8, flags.z as u8)?;
+        write!(f, "V {} C {}", flags.v as u8, flags.c as u8)
+    }
 }
 
 fn clear() -> Flags {
@@ -34,58 +30,58 @@ fn clear() -> Flags {
     }
 }
 
-fn byte(title: &[u8], kind: Kind, p: u8, q: u8, carry: bool) {
+fn byte(rt: &impl Print, title: &str, kind: Kind, p: u8, q: u8, carry: bool) -> io::Result<()> {
     let only = alu::byte_cycle(kind, p, q, carry, clear());
-    let f = alu::after_byte(clear(), only, true);
-    show(title, only.result as u64, 2, f);
+    let flags = Named(alu::after_byte(clear(), only, true));
+    println!(rt; "{title}: {:02x} {flags}", only.result)
 }
 
 // Two cycles with C8 between them, in the order of the kind.
-fn word(title: &[u8], kind: Kind, p: [u8; 2], q: [u8; 2], carry: bool) {
-    if alu::high_first(kind) {
-        let first = alu::byte_cycle(kind, p[1], q[1], carry, clear());
-        let second = alu::byte_cycle(kind, p[0], q[0], first.c8, clear());
-        let f = alu::after_word(clear(), first, second, true);
-        show(
-            title,
-            first.result as u64 * 256 + second.result as u64,
-            4,
-            f,
-        );
+fn word(
+    rt: &impl Print,
+    title: &str,
+    kind: Kind,
+    p: [u8; 2],
+    q: [u8; 2],
+    carry: bool,
+) -> io::Result<()> {
+    let (i, j) = if alu::high_first(kind) {
+        (1, 0)
     } else {
-        let first = alu::byte_cycle(kind, p[0], q[0], carry, clear());
-        let second = alu::byte_cycle(kind, p[1], q[1], first.c8, clear());
-        let f = alu::after_word(clear(), first, second, true);
-        show(
-            title,
-            second.result as u64 * 256 + first.result as u64,
-            4,
-            f,
-        );
-    }
+        (0, 1)
+    };
+    let first = alu::byte_cycle(kind, p[i], q[i], carry, clear());
+    let second = alu::byte_cycle(kind, p[j], q[j], first.c8, clear());
+    let flags = Named(alu::after_word(clear(), first, second, true));
+    let mut result = [0; 2];
+    result[i] = first.result;
+    result[j] = second.result;
+    println!(rt; "{title}: {:04x} {flags}", u16::from_le_bytes(result))
 }
 
-fn main() {
-    byte(b"7F+01: ", Kind::Add, 0x7F, 0x01, false);
-    byte(b"00-01: ", Kind::Subtract, 0x00, 0x01, true);
-    byte(b"80-01: ", Kind::Subtract, 0x80, 0x01, true);
-    byte(b"00-FF with C 1: ", Kind::Subtract, 0x00, 0xFF, false);
-    byte(b"Complement of 80: ", Kind::Subtract, 0x00, 0x80, true);
-    byte(b"Complement of 00: ", Kind::Subtract, 0x00, 0x00, true);
+fn main(rt: HostRuntime) -> io::Result<()> {
+    byte(&rt, "7F+01", Kind::Add, 0x7F, 0x01, false)?;
+    byte(&rt, "00-01", Kind::Subtract, 0x00, 0x01, true)?;
+    byte(&rt, "80-01", Kind::Subtract, 0x80, 0x01, true)?;
+    byte(&rt, "00-FF with C 1", Kind::Subtract, 0x00, 0xFF, false)?;
+    byte(&rt, "Complement of 80", Kind::Subtract, 0x00, 0x80, true)?;
+    byte(&rt, "Complement of 00", Kind::Subtract, 0x00, 0x00, true)?;
     word(
-        b"Word 00FF+0001: ",
+        &rt,
+        "Word 00FF+0001",
         Kind::Add,
         [0xFF, 0x00],
         [0x01, 0x00],
         false,
-    );
+    )?;
     word(
-        b"Word 7FFF+0001: ",
+        &rt,
+        "Word 7FFF+0001",
         Kind::Add,
         [0xFF, 0x7F],
         [0x01, 0x00],
         false,
-    );
-    word(b"SRW of 0101: ", Kind::Right, [0, 0], [0x01, 0x01], false);
-    byte(b"SLB of 40: ", Kind::Left, 0, 0x40, false);
+    )?;
+    word(&rt, "SRW of 0101", Kind::Right, [0, 0], [0x01, 0x01], false)?;
+    byte(&rt, "SLB of 40", Kind::Left, 0, 0x40, false)
 }

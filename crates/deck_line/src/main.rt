@@ -2,39 +2,34 @@
 // Its argument is the control chip's marking, in decimal; without one it is 1661.
 #![tactic(auto)]
 
-use libc::{STDIN_FILENO, STDOUT_FILENO};
 use state_bytes::STATE_BYTES;
+use std::env::FillError;
+use std::io::{self, Read};
+use std::rt::Env;
 
-fn number(n: u64) {
-    io::print_decimal(STDOUT_FILENO, n);
-}
-
-fn after_space(n: u64) {
-    io::write_all(STDOUT_FILENO, b" ");
-    number(n);
-}
+// One byte more than the longest deck, so that a longer one is seen to be longer.
+const ROOM: usize = 65_537;
 
 // LC and the flag byte of a state's bytes.
-fn lc_and_flags(state: &[u8]) {
-    after_space(numbers::pair_at(state, 28) as u64);
-    after_space(numbers::byte_at(state, 27) as u64);
+fn lc_and_flags(state: &[u8]) -> (u16, u8) {
+    (numbers::pair_at(state, 28), numbers::byte_at(state, 27))
 }
 
 // A deck of 65,536 bytes has fewer samples than the places here. On 1-4 and 24 there is no other state than the deck's own.
-fn line(deck: &[u8], marking: u32) {
-    let mut requests = [0u8; 65536];
+fn line(rt: &(impl Print + AllocGlobal), deck: &[u8], marking: u32) -> io::Result<()> {
+    let mut requests = vec![in rt.alloc(); 0u8; 65_536]?;
     let mut state = [0u8; STATE_BYTES];
     let r = engine::run(deck, &mut requests, &mut state, marking);
-    let answer = r.answer;
-    number(answer as u64);
-    after_space(r.attempts as u64);
-    after_space(r.microcycles as u64);
-    match answer {
-        9 => {}
+    let (answer, attempts, microcycles) = (r.answer, r.attempts, r.microcycles);
+    print!(rt; "{answer} {attempts} {microcycles}")?;
+    if answer == 9 {
+        return println!(rt);
+    }
+    let (lc, flags) = match answer {
         1..=4 | 24 => lc_and_flags(deck::state(deck, deck::sections(deck))),
         _ => lc_and_flags(&state),
-    }
-    io::write_all(STDOUT_FILENO, b"\n");
+    };
+    println!(rt; " {lc} {flags}")
 }
 
 // What is no decimal number of up to nine digits after its zeros; no chip has it as its marking.
@@ -53,31 +48,25 @@ fn more(n: u32, c: u8) -> u32 {
 
 // A word without digits comes to 0, which is no marking either.
 fn decimal(word: &[u8]) -> u32 {
-    let mut n = 0;
-    let mut i = 0;
-    while i < word.len() {
-        n = more(n, word[i]);
-        i += 1;
-    }
-    n
+    word.iter().fold(0, |n, c| more(n, *c))
 }
 
 // What the arguments name; a word that is longer than its place is read as one without digits.
-fn marking() -> u32 {
+fn marking(rt: &impl Env) -> u32 {
+    let has_more = !matches!(rt.arg(2, &mut []), Err(FillError::NotPresent));
+    if has_more {
+        return NONE;
+    }
     let mut word = [0u8; 10];
-    match os::arg_count() {
-        0..=1 => 1661,
-        2 => {
-            let n = os::arg(1, &mut word);
-            decimal(&word[..n])
-        }
-        _ => NONE,
+    match rt.arg(1, &mut word) {
+        Ok(n) => decimal(&word[..n]),
+        Err(FillError::TooLong) => decimal(b""),
+        Err(FillError::NotPresent) => 1661,
     }
 }
 
-// One byte more than the longest deck, so that a longer one is seen to be longer.
-fn main() {
-    let mut buffer = [0u8; 65537];
-    let n = io::read_full(STDIN_FILENO, &mut buffer);
-    line(&buffer[..n], marking());
+fn main(rt: HostRuntime) -> io::Result<()> {
+    let mut deck = Vec::with_capacity(rt.alloc(), ROOM)?;
+    rt.reader().take(ROOM as u64).read_to_end(&mut deck)?;
+    line(&rt, &deck, marking(&rt))
 }
