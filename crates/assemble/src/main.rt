@@ -2,17 +2,21 @@
 // returns and comments are taken off first, and so are lines with nothing else in them.
 #![tactic(auto)]
 
-ghost use Rattle.std.specs.Prelude.{◌≤◌, ◌≡◌, length};
-ghost use Rattle.io.specs.Counts.{IsPrefixLen};
+ghost use Rattle.std.specs.Prelude.{◌≤◌, ◌≡◌, IfOk, length, vec_capacity};
 
-use libc::{STDERR_FILENO, STDIN_FILENO, STDOUT_FILENO};
+use std::alloc::{AllocError, Global};
+use std::io::{self, Read};
+
+// One byte more than the longest text, so that a longer one is seen to be longer.
+const ROOM: usize = 1_048_577;
 
 // A tab, a carriage return and a byte of a comment as a space.
 fn plain(c: u8, comment: bool) -> u8 {
-    if comment | (c == b'\t') | (c == b'\r') {
-        return b' ';
+    if comment || matches!(c, b'\t' | b'\r') {
+        b' '
+    } else {
+        c
     }
-    c
 }
 
 // Makes spaces of the tabs, the carriage returns and the comment of the line from `at` to `end`, and tells whether
@@ -22,13 +26,11 @@ fn cleared(text: &mut [u8], at: usize, end: usize) -> bool
 {
     let mut comment = false;
     let mut filled = false;
-    let mut i = at;
-    while i < end {
-        comment = comment | (text[i] == b'#');
+    for i in at..end {
+        comment |= text[i] == b'#';
         let c = plain(text[i], comment);
         text[i] = c;
-        filled = filled | (c != b' ');
-        i += 1;
+        filled |= c != b' ';
     }
     filled
 }
@@ -49,10 +51,7 @@ fn keep(numbers: &mut [usize; 2050], place: usize, number: usize) {
 }
 
 fn kept(numbers: &[usize; 2050], place: usize) -> usize {
-    if place < 2050 {
-        return numbers[place];
-    }
-    0
+    numbers.get(place).copied().unwrap_or(0)
 }
 
 // Where the line that begins at `at` ends.
@@ -66,7 +65,7 @@ fn line_end(text: &[u8], at: usize) -> usize
 // Clears every line. The newline of one that has nothing becomes a space, which joins it to the next as leading spaces.
 // Answers where the last line that has something ends.
 fn lines_cleared(text: &mut [u8], numbers: &mut [usize; 2050]) -> usize
-    ensures { IsPrefixLen result text.new }
+    ensures { result ≤ length text.new }
 {
     let mut last = 0;
     let mut place = 0;
@@ -87,59 +86,44 @@ fn lines_cleared(text: &mut [u8], numbers: &mut [usize; 2050]) -> usize
     last
 }
 
-fn complain(text: &[u8]) {
-    io::write_all(STDERR_FILENO, text);
-}
-
-fn refuse(answer: u32, number: usize) {
-    complain(b"line ");
-    io::print_decimal(STDERR_FILENO, number as u64);
-    match answer {
-        10 => complain(b": 10 unknown or absent mnemonic\n"),
-        11 => complain(b": 11 operand or mark missing, extra or out of range\n"),
-        _ => complain(b": 12 address not hexadecimal, not rising or over 2,047\n"),
-    }
+fn refuse(rt: &impl Eprint, answer: u32, number: usize) -> io::Result<()> {
+    let why = match answer {
+        10 => "10 unknown or absent mnemonic",
+        11 => "11 operand or mark missing, extra or out of range",
+        _ => "12 address not hexadecimal, not rising or over 2,047",
+    };
+    eprintln!(rt; "line {number}: {why}")
 }
 
 // There is room for 2,048 words, so the assembler never answers 27.
-fn assemble(text: &mut [u8]) {
+fn assemble(rt: &(impl Print + Eprint), text: &mut [u8]) -> io::Result<()> {
     let mut numbers = [0usize; 2050];
     let mut words = [0u8; 8192];
     let length = lines_cleared(text, &mut numbers);
     let r = listing::assemble(&text[..length], &mut words);
     if r.answer != 0 {
-        refuse(r.answer, kept(&numbers, r.at as usize));
-        return;
+        return refuse(rt, r.answer, kept(&numbers, r.at as usize));
     }
-    let n = io::count(r.length as isize, &words);
-    if !io::write_all(STDOUT_FILENO, &words[..n]) {
-        complain(b"the words cannot be written\n");
+    let n = words.len().min(r.length as usize);
+    if rt.write_all(&words[..n]).is_err() {
+        eprintln!(rt; "the words cannot be written")?;
     }
+    Ok(())
 }
 
-// Whether a read fails; it would give nothing where the input has ended.
-fn unreadable() -> bool {
-    let mut byte = [0u8; 1];
-    libc::read(STDIN_FILENO, &mut byte) < 0
-}
-
-// One byte more than the longest text, so that a longer one is seen to be longer.
-fn room() -> [u8; 1048577]
-    ensures { 1048577 ≡ length result }
+fn room(alloc: Global) -> Result<Vec<u8>, AllocError>
+    ensures { IfOk result (λ text. 1048577 ≡ vec_capacity text) }
 {
-    [0; 1048577]
+    Vec::with_capacity(alloc, ROOM)
 }
 
-fn main() {
-    let mut buffer = room();
-    let n = io::read_full(STDIN_FILENO, &mut buffer);
-    if n == 1048577 {
-        complain(b"the text is over 1,048,576 bytes\n");
-        return;
+fn main(rt: HostRuntime) -> io::Result<()> {
+    let mut text = room(rt.alloc())?;
+    if rt.reader().take(ROOM as u64).read_to_end(&mut text).is_err() {
+        return eprintln!(rt; "the text cannot be read");
     }
-    if (n == 0) && unreadable() {
-        complain(b"the text cannot be read\n");
-        return;
+    if text.len() == ROOM {
+        return eprintln!(rt; "the text is over 1,048,576 bytes");
     }
-    assemble(&mut buffer[..n]);
+    assemble(&rt, &mut text)
 }
