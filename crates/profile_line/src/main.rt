@@ -3,95 +3,67 @@
 #![tactic(auto)]
 
 use code::Apart;
-use libc::{STDERR_FILENO, STDIN_FILENO, STDOUT_FILENO};
 use state_bytes::STATE_BYTES;
+use std::io::{self, Read};
+use std::str;
 
-fn complain(text: &[u8]) {
-    io::write_all(STDERR_FILENO, text);
-}
+// One byte more than the longest deck, so that a longer input is seen to be longer.
+const ROOM: usize = 65_537;
 
-fn last_digit(n: u32) {
-    complain(&[spelling::hex_digit(n)]);
-}
-
-fn two_digits(n: u32) {
-    last_digit(n / 0x10);
-    last_digit(n);
-}
-
-fn three_digits(n: u32) {
-    last_digit(n / 0x100);
-    two_digits(n);
-}
-
-fn rule(number: u32) {
+fn rule(number: u32) -> &'static str {
     match number {
-        1 => complain(b"1: no MI\n"),
-        2 => complain(b"2: RR loaded only by JMP or a conditional jump\n"),
-        3 => complain(b"3: no word at address 0 but NOP or JMP\n"),
-        _ => complain(b"4: no unlisted code and no CAD\n"),
+        1 => "1: no MI",
+        2 => "2: RR loaded only by JMP or a conditional jump",
+        3 => "3: no word at address 0 but NOP or JMP",
+        _ => "4: no unlisted code and no CAD",
     }
 }
 
-// A line up to its end, which is never past its room.
-fn up_to(text: &[u8; 40], end: usize) {
-    let room: &[u8] = text;
-    if end <= 40 {
-        let n = io::count(end as isize, room);
-        complain(&room[..n]);
-    }
+// A line up to its end, which is never past its room. What is spelled is ASCII.
+fn up_to(rt: &impl Eprint, text: &[u8; 40], end: usize) -> io::Result<()> {
+    let line = text.get(..end).and_then(|line| str::from_utf8(line).ok());
+    rt.eprint(line.unwrap_or_default())
 }
 
 // What is typed for a word. No line gives one that is unlisted, so it stands as a number.
-fn line(address: u32, word: u32) {
+fn line(rt: &impl Eprint, address: u32, word: u32) -> io::Result<()> {
     match code::taken_apart(word) {
         Apart::Word(f) => {
             let mut text = [0u8; 40];
             let end = spelling::spelled(address, f, &mut text);
-            up_to(&text, end);
+            up_to(rt, &text, end)
         }
-        _ => {
-            three_digits(address);
-            complain(b" ");
-            three_digits(word / 0x1000);
-            three_digits(word);
-            complain(b" unlisted\n");
-        }
+        _ => eprintln!(rt; "{address:03X} {word:06X} unlisted"),
     }
 }
 
-fn broken(words: &[u8], address: u32, number: u32) {
-    complain(b"word ");
-    three_digits(address);
-    complain(b": 25 profile broken, rule ");
-    rule(number);
-    line(address, numbers::quad_at(words, 4 * (address as usize)));
+fn broken(rt: &impl Eprint, words: &[u8], address: u32, number: u32) -> io::Result<()> {
+    let why = rule(number);
+    eprintln!(rt; "word {address:03X}: 25 profile broken, rule {why}")?;
+    line(rt, address, numbers::quad_at(words, 4 * (address as usize)))
 }
 
 // 2 with address 2,048 is of no word.
-fn out_of_range(address: u32) {
+fn out_of_range(rt: &impl Eprint, address: u32) -> io::Result<()> {
     if 2048 <= address {
-        complain(b"2 over 2,048 words, or a length that is no multiple of 4\n");
-        return;
+        return eprintln!(rt; "2 over 2,048 words, or a length that is no multiple of 4");
     }
-    complain(b"word ");
-    three_digits(address);
-    complain(b": 2 word of 2^22 or more\n");
+    eprintln!(rt; "word {address:03X}: 2 word of 2^22 or more")
 }
 
-fn accepted() {
-    if !io::write_all(STDOUT_FILENO, b"accepted\n") {
-        complain(b"the answer cannot be written\n");
+fn accepted(rt: &(impl Print + Eprint)) -> io::Result<()> {
+    if println!(rt; "accepted").is_err() {
+        eprintln!(rt; "the answer cannot be written")?;
     }
+    Ok(())
 }
 
-fn check(words: &[u8]) {
+fn check(rt: &(impl Print + Eprint), words: &[u8]) -> io::Result<()> {
     let r = profile::profile(words);
-    let answer = r.answer;
-    match answer {
-        0 => accepted(),
-        2 => out_of_range(r.address),
-        _ => broken(words, r.address, r.rule),
+    match r.answer {
+        0 => accepted(rt),
+        2 => out_of_range(rt, r.address),
+        _ => broken(rt, words, r.address, r.rule),
     }
 }
 
@@ -101,23 +73,18 @@ fn words_of(input: &[u8]) -> &[u8] {
     if opened.refusal == 9 {
         return input;
     }
-    let layout = opened.layout;
-    deck::words(input, layout)
+    deck::words(input, opened.layout)
 }
 
-// Whether a read fails; it would give nothing where the input has ended.
-fn unreadable() -> bool {
-    let mut byte = [0u8; 1];
-    libc::read(STDIN_FILENO, &mut byte) < 0
-}
-
-// One byte more than the longest deck, so that a longer input is seen to be longer.
-fn main() {
-    let mut buffer = [0u8; 65537];
-    let n = io::read_full(STDIN_FILENO, &mut buffer);
-    if (n == 0) && unreadable() {
-        complain(b"the words cannot be read\n");
-        return;
+fn main(rt: HostRuntime) -> io::Result<()> {
+    let mut input = Vec::with_capacity(rt.alloc(), ROOM)?;
+    if rt
+        .reader()
+        .take(ROOM as u64)
+        .read_to_end(&mut input)
+        .is_err()
+    {
+        return eprintln!(rt; "the words cannot be read");
     }
-    check(words_of(&buffer[..n]));
+    check(&rt, words_of(&input))
 }
