@@ -3,116 +3,88 @@
 
 use code::Class;
 use forms::Form;
-use libc::STDOUT_FILENO;
+use std::alloc::{AllocError, Global};
+use std::fmt::Write;
+use std::io;
 
-fn say(text: &[u8]) {
-    io::write_all(STDOUT_FILENO, text);
-}
-
-fn last_digit(n: u8) {
-    say(&[spelling::hex_digit(n as u32)]);
-}
-
-fn hex(top: u8) {
-    last_digit(top / 0x10);
-    last_digit(top);
-}
-
-// The last of some letters; a name has no space between two.
-fn letter(letters: u32) {
-    let last = (letters % 0x100) as u8;
-    if last != b' ' {
-        say(&[last]);
-    }
-}
-
-fn letters(name: u32) {
-    letter(name / 0x100_0000);
-    letter(name / 0x1_0000);
-    letter(name / 0x100);
-    letter(name);
-}
-
-fn codes(top: u8, class: Class) {
-    hex(top);
-    match class {
-        Class::Jump => {
-            say(b"-");
-            hex(top | 0x07);
+// A name has no space between two letters.
+fn letters(page: &mut String, name: u32) -> Result<(), AllocError> {
+    for letter in name.to_be_bytes() {
+        if letter != b' ' {
+            page.push(char::from(letter))?;
         }
-        Class::Literal => {
-            say(b"-");
-            hex(top | 0x0F);
-        }
-        _ => {}
     }
+    Ok(())
+}
+
+fn codes(page: &mut String, top: u8, class: Class) -> Result<(), AllocError> {
+    let last = match class {
+        Class::Jump => top | 0x07,
+        Class::Literal => top | 0x0F,
+        _ => return write!(page, "{top:02X}"),
+    };
+    write!(page, "{top:02X}-{last:02X}")
 }
 
 // Both designators, in the order in which they are typed, or one and the don't-care one.
-fn designators(form: Form) {
+fn designators(form: Form) -> &'static str {
     if form.second == 0 {
-        say(b"[bits 7-0]");
-        return;
+        "[bits 7-0]"
+    } else if form.a_first {
+        "a [b]"
+    } else if form.needed == 1 {
+        "b [a]"
+    } else {
+        "b a"
     }
-    if form.a_first {
-        say(b"a [b]");
-        return;
-    }
-    if form.needed == 1 {
-        say(b"b [a]");
-        return;
-    }
-    say(b"b a");
 }
 
-fn operands(class: Class, form: Form) {
+fn operands(class: Class, form: Form) -> &'static str {
     match class {
-        Class::Unlisted => {}
-        Class::Jump => {
-            if form.needed == 0 {
-                say(b"[bits 10-0]");
-            } else {
-                say(b"address");
-            }
-        }
-        Class::Conditional => say(b"address in the page"),
-        Class::Literal => say(b"literal a"),
+        Class::Unlisted => "",
+        Class::Jump if form.needed == 0 => "[bits 10-0]",
+        Class::Jump => "address",
+        Class::Conditional => "address in the page",
+        Class::Literal => "literal a",
         Class::Register => designators(form),
     }
 }
 
-fn odd_code(top: u8) {
-    if top == 0xFF {
-        return;
+fn odd_code(page: &mut String, top: u8) -> Result<(), AllocError> {
+    if top != 0xFF && forms::has_twin(top) {
+        write!(page, "{:02X}", top + 1)?;
     }
-    if forms::has_twin(top) {
-        hex(top + 1);
-    }
+    Ok(())
 }
 
 // A line at a mnemonic's first top byte.
-fn line(top: u8) {
+fn line(page: &mut String, top: u8) -> Result<(), AllocError> {
     let name = names::mnemonic_of(top);
     if forms::top_named(name) != top as usize {
-        return;
+        return Ok(());
     }
     let class = code::class_of(top);
-    say(b"| ");
-    letters(name);
-    say(b" | ");
-    codes(top, class);
-    say(b" | ");
-    operands(class, forms::form_of(top));
-    say(b" | ");
-    odd_code(top);
-    say(b" |\n");
+    page.push_str("| ")?;
+    letters(page, name)?;
+    page.push_str(" | ")?;
+    codes(page, top, class)?;
+    write!(page, " | {} | ", operands(class, forms::form_of(top)))?;
+    odd_code(page, top)?;
+    page.push_str(" |\n")
 }
 
-fn main() {
-    say(b"| Mnemonic | Code | Operands | Code with ODD |\n|---|---|---|---|\n");
-    let mut top: u32 = 0;
-    while top < 0x100 {
-        line(top as u8);
-        top += 1;
+fn table(alloc: Global) -> Result<String, AllocError> {
+    let mut page = String::from_str(
+        alloc,
+        "| Mnemonic | Code | Operands | Code with ODD |\n|---|---|---|---|\n",
+    )?;
+    for top in 0..=u8::MAX {
+        line(&mut page, top)?;
     }
+    Ok(page)
+}
+
+fn main(rt: HostRuntime) -> io::Result<()> {
+    let page = table(rt.alloc())?;
+    print!(rt; "{page}")
 }
