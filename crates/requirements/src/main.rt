@@ -3,108 +3,122 @@
 #![tactic(auto)]
 
 use code::{Apart, Class, CodeRow};
-use libc::{STDIN_FILENO, STDOUT_FILENO};
 use state::Bus;
+use std::alloc::{AllocError, Global};
+use std::fmt::Write;
+use std::io::{self, Read};
 
-fn say(text: &[u8]) {
-    io::write_all(STDOUT_FILENO, text);
-}
+const HEAD: &str = "\
+# Requirements
 
-fn last_digit(n: u8) {
-    say(&[spelling::hex_digit(n as u32)]);
-}
+One requirement for each of the 150 listed instructions, then one for each of the 17 unlisted codes. The program `requirements`
+writes this page from the table that the engine is proved to follow (`make requirements`); no line of a table is typed.
 
-fn hex(top: u8) {
-    last_digit(top / 0x10);
-    last_digit(top);
-}
+";
 
-fn number(n: u8) {
-    io::print_decimal(STDOUT_FILENO, n as u64);
-}
+const COLUMNS: &str = "\
+- **Key**: top byte and mnemonic as 01 corrects it (B6 and B7 are CW, BC to BF DB1 and DW1). It is no running number: it lasts.
+- **Codes**: the top bytes, bits 15-8 of the word.
+- **Format**: a jump has its address in bits 10-0, a conditional jump in bits 7-0, a literal instruction the literal in bits 11-4
+  and register a in bits 3-0, a register instruction b in bits 7-4 and a in bits 3-0.
+- **Microcycles** of a completed attempt. A wait, RESET and COMPUTE low cost 1, a refusal none.
+- **Status**, **Condition**: the flags that it may write. It leaves the others as they were; a failed condition writes none.
+- **Registers** that it may write, by a and b of the word; a failed condition writes none. The others of the 26 stay as they were.
+  Ra's pair is Ra, its low byte, and the register whose designator is a with its lowest bit inverted, its high byte.
+- **Waits** while these lines are so.
+- **CP1621B**: what is other with a control chip of this marking. All else on this page is of both, CP1661B and CP1621B.
+- **Refusals** that can come, with their cause. An attempt that fetches is refused with 5 where LC has no word.
+  7 is no longer given: it was the answer to an odd designator where a pair is needed, which is now executed.
+- **Vectors** that check it: how many, and the file.
+";
 
-// The last of some letters; a name has no space between two.
-fn letter(letters: u32) {
-    let last = (letters % 0x100) as u8;
-    if last != b' ' {
-        say(&[last]);
+const OUTPUTS: &str = "
+Every completed attempt, one with a failed condition too, also loads the user's outputs with bits 18-21 of its word. A wait, RESET,
+COMPUTE low and a refusal keep them.
+";
+
+const Q1: &str = "
+IB and IW with b 0-3 drop SYNC and IACK; with b 4-7 they ask to keep them, for the write of a read-modify-write (RMW). With CP1661B
+they keep them always. With CP1621B they keep them only if Q1 is false, and else drop them too. Q1 is read from TR before the instruction:
+
+    Q1 = (not TR14 and TR13) or (not TR14, not TR12, TR11, not TR10, TR9, TR8, TR7 and TR6 together)
+";
+
+const TABLE: &str = "
+| Key | Codes | Format | Microcycles | Status | Condition | Registers | Waits | CP1621B | Refusals | Vectors |
+|---|---|---|---|---|---|---|---|---|---|---|
+";
+
+const UNLISTED: &str = "
+## Unlisted codes
+
+| Key | Code | Refusals | Vectors |
+|---|---|---|---|
+";
+
+// A name has no space between two letters.
+fn mnemonic(page: &mut String, top: u8) -> Result<(), AllocError> {
+    for letter in names::mnemonic_of(top).to_be_bytes() {
+        if letter != b' ' {
+            page.push(char::from(letter))?;
+        }
     }
-}
-
-fn mnemonic(top: u8) {
-    let name = names::mnemonic_of(top);
-    letter(name / 0x100_0000);
-    letter(name / 0x1_0000);
-    letter(name / 0x100);
-    letter(name);
+    Ok(())
 }
 
 // JMP and RFS have 8 codes and each literal instruction 16, "when literals and jump addresses are not told apart".
-fn codes(top: u8, class: Class) {
-    hex(top);
+fn codes(page: &mut String, top: u8, class: Class) -> Result<(), AllocError> {
+    let last = match class {
+        Class::Jump => top | 0x07,
+        Class::Literal => top | 0x0F,
+        _ => return write!(page, "{top:02X}"),
+    };
+    write!(page, "{top:02X}-{last:02X}")
+}
+
+fn format(class: Class) -> &'static str {
     match class {
-        Class::Jump => {
-            say(b"-");
-            hex(top | 0x07);
+        Class::Unlisted => "none",
+        Class::Jump => "jump",
+        Class::Conditional => "conditional jump",
+        Class::Literal => "literal",
+        Class::Register => "register",
+    }
+}
+
+const STATUS: [(u8, &str); 4] = [(0x08, "NB "), (0x04, "ZB "), (0x02, "C4 "), (0x01, "C8 ")];
+
+const CONDITION: [(u8, &str); 4] = [(0x80, "N "), (0x40, "Z "), (0x20, "V "), (0x10, "C ")];
+
+// Those of the flags that are in the set, each with a space after it.
+fn flags(page: &mut String, set: u8, names: [(u8, &str); 4]) -> Result<(), AllocError> {
+    let mut none = true;
+    for (bit, name) in names {
+        if set & bit != 0 {
+            page.push_str(name)?;
+            none = false;
         }
-        Class::Literal => {
-            say(b"-");
-            hex(top | 0x0F);
-        }
-        _ => {}
     }
+    if none {
+        page.push_str("none ")?;
+    }
+    Ok(())
 }
 
-fn format(class: Class) {
-    match class {
-        Class::Unlisted => say(b"none"),
-        Class::Jump => say(b"jump"),
-        Class::Conditional => say(b"conditional jump"),
-        Class::Literal => say(b"literal"),
-        Class::Register => say(b"register"),
-    }
-}
-
-fn flag(set: u8, bit: u8, name: &[u8]) {
-    if set & bit != 0 {
-        say(name);
-    }
-}
-
-fn status(set: u8) {
-    if set & 0x0F == 0 {
-        say(b"none ");
-    }
-    flag(set, 0x08, b"NB ");
-    flag(set, 0x04, b"ZB ");
-    flag(set, 0x02, b"C4 ");
-    flag(set, 0x01, b"C8 ");
-}
-
-fn condition(set: u8) {
-    if set & 0xF0 == 0 {
-        say(b"none ");
-    }
-    flag(set, 0x80, b"N ");
-    flag(set, 0x40, b"Z ");
-    flag(set, 0x20, b"V ");
-    flag(set, 0x10, b"C ");
-}
-
-fn stores(registers: u8) {
+fn stores(registers: u8) -> &'static str {
     match registers {
-        0 => say(b"none"),
-        1 => say(b"Ra"),
-        2 => say(b"Ra's pair"),
-        _ => say(b"Ra and Rb"),
+        0 => "none",
+        1 => "Ra",
+        2 => "Ra's pair",
+        _ => "Ra and Rb",
     }
 }
 
-fn waits(kind: u8) {
+fn waits(kind: u8) -> &'static str {
     match kind {
-        0 => say(b"never"),
-        1 => say(b"REPLY or BUSY high"),
-        _ => say(b"REPLY low"),
+        0 => "never",
+        1 => "REPLY or BUSY high",
+        _ => "REPLY low",
     }
 }
 
@@ -120,186 +134,115 @@ fn asks_for_rmw(code: u8) -> bool {
     kept.sync & !dropped.sync
 }
 
-fn with_q1(code: u8) {
+fn with_q1(code: u8) -> &'static str {
     if asks_for_rmw(code) {
-        say(b"b 4-7: SYNC and IACK kept only if Q1 is false");
+        "b 4-7: SYNC and IACK kept only if Q1 is false"
     } else {
-        say(b"the same");
+        "the same"
     }
 }
 
-fn refusals(options: u8) {
-    if options == 15 {
-        say(b"none ");
-    } else {
-        say(b"8: b over ");
-        number(options);
-        say(b". ");
+fn refusals(page: &mut String, options: u8) -> Result<(), AllocError> {
+    match options {
+        15 => page.push_str("none "),
+        _ => write!(page, "8: b over {options}. "),
     }
 }
 
-fn facts(top: u8, row: CodeRow) {
-    number(row.cycles);
-    say(b" | ");
-    status(row.flags);
-    say(b"| ");
-    condition(row.flags);
-    say(b"| ");
-    stores(row.stores);
-    say(b" | ");
-    waits(row.waits);
-    say(b" | ");
-    with_q1(top);
-    say(b" | ");
-    refusals(row.options);
+fn facts(page: &mut String, top: u8, row: CodeRow) -> Result<(), AllocError> {
+    write!(page, "{} | ", row.cycles)?;
+    flags(page, row.flags, STATUS)?;
+    page.push_str("| ")?;
+    flags(page, row.flags, CONDITION)?;
+    write!(
+        page,
+        "| {} | {} | {} | ",
+        stores(row.stores),
+        waits(row.waits),
+        with_q1(top)
+    )?;
+    refusals(page, row.options)
 }
 
-fn key(top: u8) {
-    hex(top);
-    say(b"-");
+fn key(page: &mut String, top: u8) -> Result<(), AllocError> {
+    write!(page, "{top:02X}-")?;
     match code::class_of(top) {
-        Class::Unlisted => say(b"unlisted"),
-        _ => mnemonic(top),
+        Class::Unlisted => page.push_str("unlisted"),
+        _ => mnemonic(page, top),
     }
 }
 
 // The last cell: how many vectors, and where they are.
-fn checked(top: u8, vectors: u8) {
-    say(b"| [");
-    number(vectors);
-    say(b"](../vectors/");
-    key(top);
-    say(b".txt) |\n");
+fn checked(page: &mut String, top: u8, vectors: u8) -> Result<(), AllocError> {
+    write!(page, "| [{vectors}](../vectors/")?;
+    key(page, top)?;
+    page.push_str(".txt) |\n")
 }
 
 // Designators 0 and the first option are refused by 6 only: that is CAD, which never completes.
-fn requirement(top: u8, row: CodeRow, refusal: u8, vectors: u8) {
-    let class = row.class;
-    say(b"| ");
-    key(top);
-    say(b" | ");
-    codes(top, class);
-    say(b" | ");
-    format(class);
-    say(b" | ");
+fn requirement(
+    page: &mut String,
+    top: u8,
+    row: CodeRow,
+    refusal: u8,
+    vectors: u8,
+) -> Result<(), AllocError> {
+    page.push_str("| ")?;
+    key(page, top)?;
+    page.push_str(" | ")?;
+    codes(page, top, row.class)?;
+    write!(page, " | {} | ", format(row.class))?;
     match refusal {
-        0 => facts(top, row),
-        _ => say(b"| | | | | | 6: the engine always refuses it. "),
+        0 => facts(page, top, row)?,
+        _ => page.push_str("| | | | | | 6: the engine always refuses it. ")?,
     }
-    checked(top, vectors);
+    checked(page, top, vectors)
 }
 
-fn unlisted(top: u8, vectors: u8) {
-    say(b"| ");
-    key(top);
-    say(b" | ");
-    hex(top);
-    say(b" | 6: code unlisted. ");
-    checked(top, vectors);
+fn unlisted(page: &mut String, top: u8, vectors: u8) -> Result<(), AllocError> {
+    page.push_str("| ")?;
+    key(page, top)?;
+    write!(page, " | {top:02X} | 6: code unlisted. ")?;
+    checked(page, top, vectors)
 }
 
 // A line at an instruction's first top byte, or at an unlisted one, where it is of the table asked for.
-fn line(top: u8, listed: bool, vectors: u8) {
+fn line(page: &mut String, top: u8, listed: bool, vectors: u8) -> Result<(), AllocError> {
     match code::taken_apart(top as u32 * 0x100) {
-        Apart::Word(f) => {
-            if listed & (f.code == top) {
-                let row = code::row_of(top);
-                requirement(top, row, checks::refusal(row, top, 0), vectors);
-            }
+        Apart::Word(f) if listed && f.code == top => {
+            let row = code::row_of(top);
+            requirement(page, top, row, checks::refusal(row, top, 0), vectors)
         }
-        Apart::OutOfRange => {}
-        Apart::Unlisted => {
-            if !listed {
-                unlisted(top, vectors);
-            }
-        }
+        Apart::Unlisted if !listed => unlisted(page, top, vectors),
+        _ => Ok(()),
     }
 }
 
-fn lines(listed: bool, vectors: &[u8; 256]) {
-    let mut top = 0;
-    while top < 0x100 {
-        line(top as u8, listed, vectors[top]);
-        top += 1;
+fn lines(page: &mut String, listed: bool, vectors: &[u8; 256]) -> Result<(), AllocError> {
+    for top in 0..=u8::MAX {
+        line(page, top, listed, vectors[top as usize])?;
     }
+    Ok(())
 }
 
-fn columns() {
-    say(
-        b"- **Key**: top byte and mnemonic as 01 corrects it (B6 and B7 are CW, BC to BF DB1 and DW1). It is no running number: it lasts.\n",
-    );
-    say(b"- **Codes**: the top bytes, bits 15-8 of the word.\n");
-    say(
-        b"- **Format**: a jump has its address in bits 10-0, a conditional jump in bits 7-0, a literal instruction the literal in bits 11-4\n",
-    );
-    say(b"  and register a in bits 3-0, a register instruction b in bits 7-4 and a in bits 3-0.\n");
-    say(
-        b"- **Microcycles** of a completed attempt. A wait, RESET and COMPUTE low cost 1, a refusal none.\n",
-    );
-    say(
-        b"- **Status**, **Condition**: the flags that it may write. It leaves the others as they were; a failed condition writes none.\n",
-    );
-    say(
-        b"- **Registers** that it may write, by a and b of the word; a failed condition writes none. The others of the 26 stay as they were.\n",
-    );
-    say(
-        b"  Ra's pair is Ra, its low byte, and the register whose designator is a with its lowest bit inverted, its high byte.\n",
-    );
-    say(b"- **Waits** while these lines are so.\n");
-    say(
-        b"- **CP1621B**: what is other with a control chip of this marking. All else on this page is of both, CP1661B and CP1621B.\n",
-    );
-    say(
-        b"- **Refusals** that can come, with their cause. An attempt that fetches is refused with 5 where LC has no word.\n",
-    );
-    say(
-        b"  7 is no longer given: it was the answer to an odd designator where a pair is needed, which is now executed.\n",
-    );
-    say(b"- **Vectors** that check it: how many, and the file.\n");
+fn document(alloc: Global, vectors: &[u8; 256]) -> Result<String, AllocError> {
+    let mut page = String::new(alloc);
+    for text in [HEAD, COLUMNS, OUTPUTS, Q1, TABLE] {
+        page.push_str(text)?;
+    }
+    lines(&mut page, true, vectors)?;
+    page.push_str(UNLISTED)?;
+    lines(&mut page, false, vectors)?;
+    Ok(page)
 }
 
-fn q1() {
-    say(
-        b"\nIB and IW with b 0-3 drop SYNC and IACK; with b 4-7 they ask to keep them, for the write of a read-modify-write (RMW). With CP1661B\n",
-    );
-    say(
-        b"they keep them always. With CP1621B they keep them only if Q1 is false, and else drop them too. Q1 is read from TR before the instruction:\n\n",
-    );
-    say(
-        b"    Q1 = (not TR14 and TR13) or (not TR14, not TR12, TR11, not TR10, TR9, TR8, TR7 and TR6 together)\n",
-    );
-}
-
-fn document(vectors: &[u8; 256]) {
-    say(b"# Requirements\n\n");
-    say(
-        b"One requirement for each of the 150 listed instructions, then one for each of the 17 unlisted codes. The program `requirements`\n",
-    );
-    say(
-        b"writes this page from the table that the engine is proved to follow (`make requirements`); no line of a table is typed.\n\n",
-    );
-    columns();
-    say(
-        b"\nEvery completed attempt, one with a failed condition too, also loads the user's outputs with bits 18-21 of its word. A wait, RESET,\n",
-    );
-    say(b"COMPUTE low and a refusal keep them.\n");
-    q1();
-    say(
-        b"\n| Key | Codes | Format | Microcycles | Status | Condition | Registers | Waits | CP1621B | Refusals | Vectors |\n",
-    );
-    say(b"|---|---|---|---|---|---|---|---|---|---|---|\n");
-    lines(true, vectors);
-    say(b"\n## Unlisted codes\n\n");
-    say(b"| Key | Code | Refusals | Vectors |\n|---|---|---|---|\n");
-    lines(false, vectors);
-}
-
-fn main() {
+fn main(rt: HostRuntime) -> io::Result<()> {
     let mut vectors = [0u8; 256];
-    let n = io::read_full(STDIN_FILENO, &mut vectors);
-    if n == 256 {
-        document(&vectors);
-    } else {
-        say(b"standard input has to be 256 bytes: the number of vectors of each top byte\n");
+    if rt.reader().read_exact(&mut vectors).is_err() {
+        return println!(rt;
+            "standard input has to be 256 bytes: the number of vectors of each top byte"
+        );
     }
+    let page = document(rt.alloc(), &vectors)?;
+    print!(rt; "{page}")
 }
