@@ -67,6 +67,7 @@ fn literal(file: &mut [u8; 26], core: Core, code: u8, value: u8, reg: u8) -> Eff
 }
 
 // 70-77 leave the bus and make no request.
+#[tactic(auto, unfolding(crate::specs::Effect::register_effect, execute::specs::Execute::registers_of, control::specs::Bus::bus_after, control::specs::Bus::request_of, control::specs::Latches::latches_after, control::specs::Parts::latches_after70_to77, choose::specs::Ranged::ranged))]
 fn codes_70_to_77(file: &mut [u8; 26], core: Core, code: u8, b: u8, a: u8, sample: Sample) -> Effect
     requires { code ≤ 0x7F }
     ensures { leaves file.new result ≡ register_effect file.old core code b a sample }
@@ -87,6 +88,7 @@ fn codes_70_to_77(file: &mut [u8; 26], core: Core, code: u8, b: u8, a: u8, sampl
 }
 
 // 80-DF leave the bus and the latches.
+#[tactic(auto, unfolding(crate::specs::Effect::register_effect, execute::specs::Execute::registers_of, control::specs::Bus::bus_after, control::specs::Bus::request_of, control::specs::Latches::latches_after, choose::specs::Ranged::ranged))]
 fn operation(file: &mut [u8; 26], core: Core, code: u8, b: u8, a: u8, sample: Sample) -> Effect
     requires { (0x80 ≤ code) × (code ≤ 0xDF) }
     ensures { leaves file.new result ≡ register_effect file.old core code b a sample }
@@ -106,6 +108,7 @@ fn operation(file: &mut [u8; 26], core: Core, code: u8, b: u8, a: u8, sample: Sa
 }
 
 // E0-E7 take nothing from the registers.
+#[tactic(auto, unfolding(crate::specs::Effect::register_effect, execute::specs::Execute::registers_of, control::specs::Bus::bus_after, control::specs::Bus::request_of, control::specs::Latches::latches_after, control::specs::Parts::latches_after_input, choose::specs::Ranged::ranged))]
 fn input(file: &mut [u8; 26], core: Core, code: u8, b: u8, a: u8, sample: Sample) -> Effect
     requires { (0xE0 ≤ code) × (code ≤ 0xE7) }
     ensures { leaves file.new result ≡ register_effect file.old core code b a sample }
@@ -128,6 +131,7 @@ fn input(file: &mut [u8; 26], core: Core, code: u8, b: u8, a: u8, sample: Sample
 }
 
 // E8-EF: MI and LTR leave the bus.
+#[tactic(auto, unfolding(crate::specs::Effect::register_effect, execute::specs::Execute::registers_of, control::specs::Bus::bus_after, control::specs::Bus::request_of, control::specs::Latches::latches_after, control::specs::Parts::latches_after_load, choose::specs::Ranged::ranged))]
 fn load(file: &[u8; 26], core: Core, code: u8, b: u8, a: u8, sample: Sample) -> Effect
     requires { (0xE8 ≤ code) × (code ≤ 0xEF) }
     ensures { leaves file.now result ≡ register_effect file.now core code b a sample }
@@ -148,6 +152,7 @@ fn load(file: &[u8; 26], core: Core, code: u8, b: u8, a: u8, sample: Sample) -> 
 }
 
 // F0-FF: reads and writes leave the latches, and only an input is RMW.
+#[tactic(auto, unfolding(crate::specs::Effect::register_effect, execute::specs::Execute::registers_of, control::specs::Bus::bus_after, control::specs::Bus::request_of, control::specs::Latches::latches_after, choose::specs::Ranged::ranged))]
 fn access(file: &mut [u8; 26], core: Core, code: u8, b: u8, a: u8, sample: Sample) -> Effect
     requires { 0xF0 ≤ code }
     ensures { leaves file.new result ≡ register_effect file.old core code b a sample }

@@ -21,6 +21,7 @@ pub fn refusal(row: CodeRow, code: u8, b: u8) -> u8
     0
 }
 
+#[tactic(auto, unfolding(crate::specs::Asked::waits_by, choose::specs::Ranged::ranged))]
 fn waits(row: CodeRow, sample: Sample) -> bool
     ensures { result ≡ waits_by row sample }
 {
@@ -33,6 +34,7 @@ fn waits(row: CodeRow, sample: Sample) -> bool
 }
 
 // Only E0-FF are asked.
+#[tactic(auto, unfolding(crate::specs::Asked::waiting_by, choose::specs::Ranged::ranged))]
 pub fn waiting(row: CodeRow, code: u8, sample: Sample) -> bool
     ensures { result ≡ waiting_by row code sample }
 {

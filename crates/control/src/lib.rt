@@ -58,6 +58,7 @@ fn after_input(held: Bus, rmw: bool) -> Bus
     bus_with(held.m, false, false)
 }
 
+#[tactic(auto, unfolding(crate::specs::Bus::bus_after, choose::specs::Ranged::ranged))]
 pub fn bus_after(held: Bus, code: u8, rmw: bool, pair: u16) -> Bus
     ensures { result ≡ bus_after held code rmw pair }
 {
@@ -80,6 +81,7 @@ pub fn placed(kind: u8, value: u16) -> u32
     kind as u32 * 65536 + value as u32
 }
 
+#[tactic(auto, unfolding(crate::specs::Bus::request_of, choose::specs::Ranged::ranged))]
 pub fn request(code: u8, pair: u16, dal: u16) -> u32
     ensures { result ≡ request_of code pair dal }
 {
@@ -137,6 +139,7 @@ fn with_loaded(l: Latches, g: u8, tr: u16, ics: bool) -> Latches
     }
 }
 
+#[tactic(auto, unfolding(crate::specs::Latches::input_latches_of, choose::specs::Ranged::ranged))]
 fn input_latches(l: Latches, b: u8, dal: u16, ics: bool) -> Latches
     ensures { result ≡ input_latches_of l b dal ics }
 {
@@ -162,6 +165,7 @@ fn with_modification(l: Latches, modification: u16) -> Latches
     }
 }
 
+#[tactic(auto, unfolding(crate::specs::Parts::latches_after70_to77, choose::specs::Ranged::ranged))]
 pub fn latches_after_70_to_77(l: Latches, code: u8, b: u8, ra: u8) -> Latches
     ensures { result ≡ latches_after70_to77 l code b ra }
 {
@@ -173,6 +177,7 @@ pub fn latches_after_70_to_77(l: Latches, code: u8, b: u8, ra: u8) -> Latches
     }
 }
 
+#[tactic(auto, unfolding(crate::specs::Parts::latches_after_input, choose::specs::Ranged::ranged))]
 pub fn latches_after_input(l: Latches, code: u8, b: u8, sample: Sample) -> Latches
     ensures { result ≡ latches_after_input l code b sample }
 {
@@ -182,6 +187,7 @@ pub fn latches_after_input(l: Latches, code: u8, b: u8, sample: Sample) -> Latch
     }
 }
 
+#[tactic(auto, unfolding(crate::specs::Parts::latches_after_load, choose::specs::Ranged::ranged))]
 pub fn latches_after_load(l: Latches, code: u8, pair: u16) -> Latches
     ensures { result ≡ latches_after_load l code pair }
 {
@@ -200,6 +206,7 @@ pub enum Way {
     Onward,
 }
 
+#[tactic(auto, unfolding(crate::specs::Next::condition_of, choose::specs::Ranged::ranged))]
 fn condition(code: u8, f: Flags, ics: bool) -> bool
     requires { 0x10 ≤ code }
     ensures { result ≡ condition_of code f ics }
@@ -238,6 +245,7 @@ fn within_page(lc: u16, n: u16, jumps: bool) -> Way
     Way::Onward
 }
 
+#[tactic(auto, unfolding(crate::specs::Next::way_of, choose::specs::Ranged::ranged))]
 pub fn way_of(lc: u16, code: u8, n: u16, f: Flags, ics: bool) -> Way
     ensures { result ≡ way_of lc code n f ics }
 {

@@ -36,7 +36,7 @@ fn stored_second(
 }
 
 // 20-6F: AL CL NL TL LL. CL is a subtract that writes no register and leaves C4 and C8.
-#[tactic(auto, unfolding(crate::specs::Execute::literal_of, crate::specs::Execute::compared_of, state::specs::File::register_of))]
+#[tactic(auto, unfolding(crate::specs::Execute::literal_of, cycles::specs::Cycles::one_cycle_of, cycles::specs::Cycles::step_of, cycles::specs::Cycles::operand_of, state::specs::File::register_of, state::specs::File::written_of, plan::specs::Plan::literal_plan_of, alu::specs::Cycle::cycle_of, crate::specs::Execute::compared_of, choose::specs::Ranged::ranged))]
 pub fn literal(file: &mut [u8; 26], g: u8, f: Flags, code: u8, value: u8, a: u8) -> Flags
     ensures { leaves file.new result ≡ literal_of file.old g f code value a }
 {
@@ -101,6 +101,7 @@ fn copied(file: &mut [u8; 26], g: u8, f: Flags, a: u8) -> Flags
 }
 
 // 70-77: CCF, LCF, CIB and CDB; the others leave registers and flags.
+#[tactic(auto, unfolding(crate::specs::Execute::codes70_to77_of, choose::specs::Ranged::ranged))]
 pub fn codes_70_to_77(file: &mut [u8; 26], g: u8, f: Flags, code: u8, b: u8, a: u8) -> Flags
     ensures { leaves file.new result ≡ codes70_to77_of file.old g f code b a }
 {
@@ -196,6 +197,7 @@ pub fn conditioned(file: &mut [u8; 26], g: u8, f: Flags, ics: bool, code: u8, b:
 }
 
 // Which byte IB and ISB take, by b mod 4: the upper, the lower, the one that M bit 0 names, or the other one.
+#[tactic(auto, unfolding(crate::specs::Execute::upper_of, choose::specs::Ranged::ranged))]
 fn upper(m: u16, b: u8) -> bool
     ensures { result ≡ upper_of m b }
 {

@@ -20,6 +20,7 @@ fn plan_with(kind: Kind, p: Operand, q: Operand, carry: bool, stores: bool) -> P
 }
 
 // Four codes for each, its byte and word forms; the compiler makes a jump of the line and what its cycle does.
+#[tactic(auto, unfolding(crate::specs::Plan::plan_of, choose::specs::Ranged::ranged))]
 pub fn plan(code: u8, f: Flags) -> Plan
     ensures { result ≡ plan_of code f }
 {
@@ -51,6 +52,7 @@ pub fn plan(code: u8, f: Flags) -> Plan
 }
 
 // Whether a condition lets the code work: C for CMB, CMW, CAB and CAW, ICS for CAWI.
+#[tactic(auto, unfolding(crate::specs::Plan::condition_met, choose::specs::Ranged::ranged))]
 pub fn condition_met(code: u8, c: bool, ics: bool) -> bool
     ensures { result ≡ condition_met code c ics }
 {
