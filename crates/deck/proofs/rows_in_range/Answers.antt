@@ -12,11 +12,11 @@ unfolding rows_part_in_range
 returns-then-not-in_range c =
     let part = c.args.part.now in
     let out = sym (c.in_range.ensures ∙ ap row_in_range c.row_at.ensures) ∙ c.if-not-in_range.true in
-    rw (le-leb _ 128 c.if-n-gt128.false, rows-every part (length part / 16)) (sym (all-fails _ _ c.loop-i.i c.loop-i-test.true out))
+    rw (le-leb (length part / 16) 128 (omega arith), rows-every part (length part / 16)) (sym (all-fails _ _ c.loop-i.i c.loop-i-test.true out))
 
 pub returns : goal.returns
 unfolding rows_part_in_range
 returns c =
     let part = c.args.part.now in
     let e : c.loop-i.i ≡ length part / 16 = omega arith in
-    rw (le-leb _ 128 c.if-n-gt128.false, rows-every part (length part / 16)) (sym (rw e at c.loop-i.invariant.1))
+    rw (le-leb (length part / 16) 128 (omega arith), rows-every part (length part / 16)) (sym (rw e at c.loop-i.invariant.1))
