@@ -40,6 +40,7 @@ pub fn refusal(size: usize, delay: u32) -> u8
 }
 
 // Requests 1-4 are reads and writes.
+#[tactic(auto, unfolding(crate::specs::Memory::accesses, choose::specs::Ranged::ranged))]
 fn accesses(request: u32) -> bool
     ensures { result ≡ accesses request }
 {
@@ -52,6 +53,7 @@ fn accesses(request: u32) -> bool
 }
 
 // IB and IW.
+#[tactic(auto, unfolding(crate::specs::Memory::takes_in, choose::specs::Ranged::ranged))]
 fn takes_in(code: u8) -> bool
     ensures { result ≡ takes_in code }
 {
@@ -63,6 +65,7 @@ fn takes_in(code: u8) -> bool
 }
 
 // IB, IW, OB and OW.
+#[tactic(auto, unfolding(crate::specs::Memory::transfers, choose::specs::Ranged::ranged))]
 pub fn transfers(code: u8) -> bool
     ensures { result ≡ transfers code }
 {
@@ -140,6 +143,7 @@ fn put(memory: &mut [u8], at: usize, byte: u8)
 }
 
 // What an attempt's request stores.
+#[tactic(auto, unfolding(crate::specs::Memory::stored_in))]
 pub fn store(memory: &mut [u8], kept: Kept, request: u32)
     ensures { memory.new ≡ stored_in memory.old kept request }
 {
@@ -196,7 +200,7 @@ fn waits_after(waits: u8, transfer: bool, request: u32) -> u8
 
 // What is kept after an attempt that made this request; `transfer` says of a wait that its code is one of IB, IW, OB and OW. Most attempts
 // make no request while there is nothing to count.
-#[tactic(auto, unfolding(crate::specs::Memory::kept_after))]
+#[tactic(auto, using(crate::proofs::Laws::rests), unfolding(crate::specs::Memory::kept_after))]
 pub fn after(delay: u8, kept: Kept, transfer: bool, request: u32) -> Kept
     ensures { result ≡ kept_after delay kept transfer request }
 {
