@@ -119,12 +119,8 @@ fn room(alloc: Global) -> Result<Vec<u8>, AllocError>
 
 fn main(rt: HostRuntime) -> io::Result<()> {
     let mut text = room(rt.alloc())?;
-    if rt
-        .reader()
-        .take(ROOM as u64)
-        .read_to_end(&mut text)
-        .is_err()
-    {
+    let read = rt.reader().take(ROOM as u64).read_to_end(&mut text);
+    if read.is_err() {
         return eprintln!(rt; "the text cannot be read");
     }
     if text.len() == ROOM {

@@ -34,12 +34,8 @@ fn list(rt: &(impl Print + Eprint + AllocGlobal), words: &[u8]) -> io::Result<()
 
 fn main(rt: HostRuntime) -> io::Result<()> {
     let mut words = Vec::with_capacity(rt.alloc(), ROOM)?;
-    if rt
-        .reader()
-        .take(ROOM as u64)
-        .read_to_end(&mut words)
-        .is_err()
-    {
+    let read = rt.reader().take(ROOM as u64).read_to_end(&mut words);
+    if read.is_err() {
         return eprintln!(rt; "the words cannot be read");
     }
     list(&rt, &words)

@@ -78,12 +78,8 @@ fn words_of(input: &[u8]) -> &[u8] {
 
 fn main(rt: HostRuntime) -> io::Result<()> {
     let mut input = Vec::with_capacity(rt.alloc(), ROOM)?;
-    if rt
-        .reader()
-        .take(ROOM as u64)
-        .read_to_end(&mut input)
-        .is_err()
-    {
+    let read = rt.reader().take(ROOM as u64).read_to_end(&mut input);
+    if read.is_err() {
         return eprintln!(rt; "the words cannot be read");
     }
     check(&rt, words_of(&input))
