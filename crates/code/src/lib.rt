@@ -69,6 +69,7 @@ pub enum Together {
 }
 
 // The class of a top byte.
+#[tactic(auto, unfolding(crate::specs::CodeRows::class_of, choose::specs::Ranged::ranged))]
 pub fn class_of(top: u8) -> Class
     ensures { result ≡ class_of top }
 {
@@ -96,6 +97,7 @@ pub fn rows() -> [u32; 256]
     table::ROWS
 }
 
+#[tactic(auto, unfolding(crate::specs::Entries::class_at, choose::specs::Ranged::ranged))]
 fn class_at(n: u32) -> Class
     ensures { result ≡ class_at n }
 {

@@ -31,6 +31,7 @@ pub struct Form {
 }
 
 // The bits that the summary marks x.
+#[tactic(auto, unfolding(crate::specs::Forms::spare_of, choose::specs::Ranged::ranged))]
 fn spare(top: u8) -> u16
     ensures { result ≡ spare_of top }
 {
@@ -109,6 +110,7 @@ pub fn form_of(top: u8) -> Form
 }
 
 // How many values an operand of so many digits has.
+#[tactic(auto, unfolding(crate::specs::Forms::limit_of, choose::specs::Ranged::ranged))]
 pub fn limit(digits: u8) -> u16
     ensures { result ≡ limit_of digits }
 {

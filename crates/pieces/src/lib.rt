@@ -52,6 +52,7 @@ pub fn piece_at(line: &[u8], at: usize) -> Piece
     Piece { from, to }
 }
 
+#[tactic(auto, unfolding(crate::specs::Read::upper_of, choose::specs::Ranged::ranged))]
 fn upper(c: u8) -> u8
     ensures { result ≡ upper_of c }
 {
@@ -87,6 +88,7 @@ pub fn name_of(piece: &[u8]) -> u32
 }
 
 // A hexadecimal digit's value; 0x10 for any other byte.
+#[tactic(auto, unfolding(crate::specs::Read::digit_of, choose::specs::Ranged::ranged))]
 pub fn digit_of(c: u8) -> u8
     ensures { result ≡ digit_of c }
 {
