@@ -56,7 +56,7 @@ def files_counted():
 
 
 def lines_fit():
-    for file in [*folders("*"), *pathlib.Path("crates").glob("*/proofs/*/Proof.antt")]:
+    for file in [*folders("*"), *pathlib.Path("crates").glob("*/proofs/*/*.antt")]:
         widest = max(map(len, text(file).splitlines()))
         yield f"{file}: a line of {widest} characters", widest <= 160
 

@@ -14,7 +14,8 @@ use Rattle.rows.specs.declared.Outputs.{Outputs}
 use Rattle.rows.specs.declared.Row.{Row}
 use Rattle.state.specs.declared.Core.{Core}
 use Rattle.state.specs.declared.Sample.{Sample}
-use Rattle.attempt.specs.Attempt.{when_refused, when_idle, executed_of, checked_of, reset_of, modified_of, taken_of, fetched_of, attempted_of, outputs_of, attempt_of}
+use Rattle.attempt.specs.Attempt.{when_refused, when_idle, executed_of, checked_of, reset_of, modified_of}
+use Rattle.attempt.specs.Attempt.{taken_of, fetched_of, attempted_of, outputs_of, attempt_of}
 use Rattle.choose.proofs.Choice.{pick_all}
 use Rattle.numbers.specs.Numbers.{word_at}
 use Rattle.state.specs.File.{Leaves}

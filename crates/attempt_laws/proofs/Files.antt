@@ -105,7 +105,8 @@ module _ (g : ℕ) (f : Flags) (plan : Plan) (t : T (plan_fits plan)) where
   unfolding one_cycle_of
   one-cycle-in-range xs at odd h = step-in-range xs at plan.carry false h
 
-  joined-in-range : (xs : List ℕ) (one other : Designators) (high odd : Bool) → FileInRange xs → FileInRange (one_then_other xs g f plan one other high odd).file
+  joined-in-range : (xs : List ℕ) (one other : Designators) (high odd : Bool) → FileInRange xs
+      → FileInRange (one_then_other xs g f plan one other high odd).file
   joined-in-range xs one other high odd h =
       step-in-range _ other _ _ (step-in-range xs one plan.carry high h)
 

@@ -40,7 +40,8 @@ pub computed : (host_of deck requests buffer 1621 ≡ after)
     × (map (λ (n : ℕ). host_in_parts (n ∷ []) deck requests buffer 1621) (0 ∷ 1 ∷ 2 ∷ 3 ∷ 4 ∷ 5 ∷ 6 ∷ 7 ∷ []) ≡ replicate 8 after)
     × (host_in_parts (1 ∷ 1 ∷ 1 ∷ 1 ∷ 1 ∷ 1 ∷ []) deck requests buffer 1621 ≡ after)
     × (host_in_parts (2 ∷ 0 ∷ 3 ∷ []) deck requests buffer 1621 ≡ after)
-unfolding host_in_parts first_deck rest_deck host_of deck_refusal_of whole_of layout_of section_end section_of words_in_range rows_part_in_range samples_in_range
+unfolding host_in_parts first_deck rest_deck host_of deck_refusal_of whole_of layout_of section_end section_of words_in_range rows_part_in_range
+    samples_in_range
     state_in_range core_in_range address_in_range latches_in_range core_of address_of bus_of latches_of file_of tail_of stored_of
     masks_fit outputs_fit values_in_masks row_in_range rows_in_range matched_of merged_of scan_from row_from rows_of
     slot_of high_of register_of written_of nibble_of flag_byte_of flags_of marking_of
@@ -49,5 +50,6 @@ unfolding host_in_parts first_deck rest_deck host_of deck_refusal_of whole_of la
     word_refusal_of designator_refusal_of options_of waiting_of waits_of executed_of effect_of literal_effect register_effect ranged
     cycles_of status_flags_of condition_flags_of stores_of bus_after request_of latches_after
     way_of tr_byte_of inputs_of onward_of next_of rr_of tsr_of address_after operand_of step_of one_cycle_of two_cycles_of
-    literal_of operation_of access_of conditioned_of registers_of plan_of condition_met literal_plan_of add_of kept_of cycle_of after_of after_byte_of after_word_of
+    literal_of operation_of access_of conditioned_of registers_of plan_of condition_met literal_plan_of add_of kept_of cycle_of after_of
+    after_byte_of after_word_of
 computed = (refl, refl, refl, refl, refl)

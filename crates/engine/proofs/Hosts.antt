@@ -74,7 +74,8 @@ module _ (deck requests state : List ℕ) (marking : ℕ) where
   pub same-run : deck_refusal_of deck (length requests) (length state) marking ≡ 0
       → (codes words samples part xs : List ℕ) (k : Core)
       → codes ≡ entries → words ≡ words_part deck → samples ≡ samples_part deck → part ≡ rows_part deck → Loaded (state_part deck) (marking_of marking) k xs
-      → run_by codes words (lent_rows part) (samples_from samples 0 (length samples / 4)) (world xs k 0 0 0 requests) ≡ deck_run deck requests (marking_of marking)
+      → run_by codes words (lent_rows part) (samples_from samples 0 (length samples / 4)) (world xs k 0 0 0 requests)
+      ≡ deck_run deck requests (marking_of marking)
   unfolding deck_run
   same-run h codes words samples part xs k ec ew es ep l =
       rw (ec, ew, es, ep, l.core, l.file, loads deck (length requests) (length state) marking h) (own-rows h _ _)

@@ -71,7 +71,8 @@ module _ (s : List ℕ) (n i : ℕ) (h : i < n) where
   first-after k e = rw (left, ne_eqb _ _ e, add-one)
 
   -- the line of the first word, and those of the others
-  pub listing_step : listing_from i (firsts (word_at s) i (n - i)) ≡ word_line i (word_at s i) ++ listing_from (i + 1) (firsts (word_at s) (i + 1) (n - (i + 1)))
+  pub listing_step : listing_from i (firsts (word_at s) i (n - i))
+    ≡ word_line i (word_at s i) ++ listing_from (i + 1) (firsts (word_at s) (i + 1) (n - (i + 1)))
   unfolding listing_from
   listing_step = rw (left, add-one)
 

@@ -40,7 +40,8 @@ module _ (deck memory : List ℕ) (delay : ℕ) (requests state : List ℕ) (mar
 
   module _ (whole : number ≡ 0) where
     pub refuses-memory : (memory_refusal_of (length memory) delay ≡ 0 → ⊥)
-        → remembered (hosted (reported (memory_refusal_of (length memory) delay) 0 0) requests state) memory ≡ host_with deck memory delay requests state marking
+        → remembered (hosted (reported (memory_refusal_of (length memory) delay) 0 0) requests state) memory
+        ≡ host_with deck memory delay requests state marking
     unfolding host_with refusal_with
     refuses-memory h = rw (eq-eqb _ 0 whole, ne_eqb _ 0 h)
 

@@ -34,7 +34,8 @@ use Rattle.state_bytes.specs.Range.{address_in_range, latches_in_range, core_in_
 use Rattle.memory_laws.specs.Example.{deck, memory, requests, buffer, after}
 
 pub computed : host_with deck memory 1 requests buffer 1661 ≡ after
-unfolding host_with refusal_with deck_run_with memory_refusal_of run_by next_with stopped_at taken_in seen_by code_at stuck_of kept_after waits_after transfer_waits
+unfolding host_with refusal_with deck_run_with memory_refusal_of run_by next_with stopped_at taken_in seen_by code_at stuck_of kept_after waits_after
+    transfer_waits
     stored_in seen_of
     data_of reply_of transfers takes_in accesses deck_refusal_of whole_of layout_of section_end section_of words_in_range rows_part_in_range samples_in_range
     state_in_range core_in_range address_in_range latches_in_range core_of address_of bus_of latches_of file_of tail_of stored_of
@@ -44,5 +45,6 @@ unfolding host_with refusal_with deck_run_with memory_refusal_of run_by next_wit
     word_refusal_of designator_refusal_of options_of waiting_of waits_of executed_of effect_of literal_effect register_effect ranged
     cycles_of status_flags_of condition_flags_of stores_of rmw_of after_input bus_after request_of input_latches_of latches_after
     way_of tr_byte_of inputs_of onward_of next_of rr_of tsr_of address_after operand_of step_of one_cycle_of two_cycles_of upper_of selected_of input_of
-    literal_of operation_of access_of conditioned_of registers_of plan_of condition_met literal_plan_of add_of kept_of cycle_of after_of after_byte_of after_word_of
+    literal_of operation_of access_of conditioned_of registers_of plan_of condition_met literal_plan_of add_of kept_of cycle_of after_of
+    after_byte_of after_word_of
 computed = refl

@@ -34,7 +34,8 @@ module _ (delay address since waits : ℕ) (transfer : Bool) (request : ℕ) whe
   keeps-by true true accessed e f apart = absurd (false≢true (sym (apart refl)))
   keeps-by true false accessed e f apart = rw e (ap (λ (n : ℕ). kept_of true (value request) n 0) (omega arith))
   keeps-by false true true e f apart =
-      rw (e, f) (ap (λ (n : ℕ). kept_of true address n (min (min waits 32 + 1) 32)) (omega arith) ∙ ap (kept_of true address (delay - (since + 1))) (omega arith))
+      rw (e, f) (ap (λ (n : ℕ). kept_of true address n (min (min waits 32 + 1) 32)) (omega arith)
+      ∙ ap (kept_of true address (delay - (since + 1))) (omega arith))
   keeps-by false true false e f apart = rw (e, f) (ap (kept_of false address 0) (omega arith))
   keeps-by false false true e f apart = rw (e, f) (ap (λ (n : ℕ). kept_of true address n 0) (omega arith))
   keeps-by false false false e f apart = rw (e, f)

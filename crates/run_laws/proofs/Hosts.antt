@@ -37,7 +37,8 @@ module _ (deck requests state : List ℕ) (marking : ℕ) (h : deck_refusal_of d
       refl)
 
   -- 0, "all samples used"
-  pub host-full : (host_of deck requests state marking).report.answer ≡ 0 → (host_of deck requests state marking).report.attempts ≡ length (samples_part deck) / 4
+  pub host-full : (host_of deck requests state marking).report.answer ≡ 0 → (host_of deck requests state marking).report.attempts
+    ≡ length (samples_part deck) / 4
   unfolding deck_run
   host-full =
       rw (← answers deck requests state marking h (deck_run deck requests (marking_of marking)) refl)
@@ -53,7 +54,8 @@ module _ (deck requests state : List ℕ) (marking : ℕ) (h : deck_refusal_of d
 
   -- "the places of earlier attempts are written, the others are untouched"
   pub host-places : (length (host_of deck requests state marking).requests ≡ length requests)
-      × ((i d : ℕ) → (host_of deck requests state marking).report.attempts * 4 ≤ i → get_or (host_of deck requests state marking).requests i d ≡ get_or requests i d)
+      × ((i d : ℕ) → (host_of deck requests state marking).report.attempts * 4 ≤ i → get_or (host_of deck requests state marking).requests i d
+      ≡ get_or requests i d)
   unfolding deck_run
   host-places =
       rw (← answers deck requests state marking h (deck_run deck requests (marking_of marking)) refl)

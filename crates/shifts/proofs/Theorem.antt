@@ -92,7 +92,8 @@ module _ (g a : ℕ) where
       → ((i : ℕ) → Elsewhere g (registers_from word a) i → get_or es i 0 ≡ get_or ds i 0) → es ≡ ds
   unfolding register_of
   same-files word even es ds k m h l number others =
-      ext_get_or 0 es ds (h.size ∙ sym l.size) (λ i j. by_place (λ (n : ℕ). get_or es n 0 ≡ get_or ds n 0) word (ra word number) (high word even number) others i)
+      ext_get_or 0 es ds (h.size ∙ sym l.size) (λ i j. by_place (λ (n : ℕ). get_or es n 0 ≡ get_or ds n 0) word (ra word number)
+          (high word even number) others i)
     where
       ra : (w : Bool) → number_in w es g a ≡ number_in w ds g a → register_of es g a ≡ register_of ds g a
       ra false e = e

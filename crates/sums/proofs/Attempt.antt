@@ -67,7 +67,8 @@ source-below : (t : Step) → Fits t → source_of t ≤ 15
 source-below (byte a b) h = h.3
 source-below (pair a b) h = omega (arith, h.3)
 
-refusal-none : (sign : Sign) (later : Bool) (t : Step) → Fits t → word_refusal_of (step_code sign later (is_pair t)) (Operands.Two (source_of t) (target_of t)) ≡ 0
+refusal-none : (sign : Sign) (later : Bool) (t : Step) → Fits t
+    → word_refusal_of (step_code sign later (is_pair t)) (Operands.Two (source_of t) (target_of t)) ≡ 0
 unfolding word_refusal_of designator_refusal_of
 refusal-none sign later t h =
     rw (no-cad sign later (is_pair t), options (step_code sign later (is_pair t)) (working sign later (is_pair t)), le-ltb 15 (source_of t) (source-below t h))

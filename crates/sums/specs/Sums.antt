@@ -1,6 +1,7 @@
 -- Demand 3: two numbers of k bytes in registers are added or subtracted, low end first, by byte and pair instructions. Their words, what is given, and what a
 -- run leaves; proofs/Theorem.antt has the theorem.
-use Rattle.std.specs.Prelude.{ℕ, zero, suc, ◌+◌, ◌-◌, ◌*◌, ◌/◌, ◌%◌, ◌^◌, ◌<◌, ◌≤◌, ◌≡◌, Bool, true, false, not, List, [], ◌∷◌, ◌++◌, eqb, ltb, leb, length, get_or}
+use Rattle.std.specs.Prelude.{ℕ, zero, suc, ◌+◌, ◌-◌, ◌*◌, ◌/◌, ◌%◌, ◌^◌, ◌<◌, ◌≤◌, ◌≡◌, Bool, true}
+use Rattle.std.specs.Prelude.{false, not, List, [], ◌∷◌, ◌++◌, eqb, ltb, leb, length, get_or}
 use Rattle.attempt_laws.specs.After.{following}
 use Rattle.attempt_laws.specs.Fate.{user_bits}
 use Rattle.alu.specs.Cycle.{sum_outside}
