@@ -26,7 +26,7 @@ use Rattle.state.specs.File.{Leaves}
 use Rattle.state.specs.declared.Core.{Core}
 use Rattle.state.specs.declared.Sample.{Sample}
 use Rattle.engine.specs.Run.{World, world, put4_of, stepped_of, stopped_of, run_from, samples_from}
-use Rattle.engine.specs.RunEnds.{world_of, going_of, unseen, lent_rows, inputs_for, after_of, next_by, run_by}
+use Rattle.engine.specs.RunEnds.{run_end, world_of, going_of, unseen, lent_rows, inputs_for, after_of, next_by, run_by}
 use Rattle.engine.specs.declared.RunEnd.{RunEnd}
 
 -- the samples that are left, before and after one of them
@@ -199,6 +199,15 @@ module _ (codes ws part samples : List ℕ) (n : ℕ) (start : World) where
           let then : measure n r ≤ n - (i + 1) =
           at_most (eqb r.answer 0) (n - r.attempts) (n - (i + 1)) (λ z. omega (arith, counts.0 (eqb-true r.answer 0 z))) in
           omega (arith, now, then, goes n at g)
+
+pub begins : (codes ws part samples : List ℕ) (n : ℕ) (file : List ℕ) (first : Core) (requests : List ℕ)
+    → Good codes ws part samples n (world file first 0 0 0 requests) (run_end first 0 0 0) file requests
+begins codes ws part samples n file first requests = record {
+  few = zero-le;
+  counted = zero-le;
+  long = refl;
+  same = ap (λ (k : ℕ). run_by codes ws (lent_rows part) (samples_from samples 0 k) (world file first 0 0 0 requests)) (omega arith);
+}
 
 -- where each attempt is the one of 01, so is the run
 module _ (codes ws : List ℕ) (ps : List Packed) (rs : List Row)

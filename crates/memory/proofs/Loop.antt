@@ -1,6 +1,6 @@
 -- Laws of the code's loop over the tables that are lent: what is left to run gives the whole run, one attempt after the other; and by THE table and rows in
 -- range it is the run of 01 and 02. Assumes nothing.
-use Prim.Native.Nat.{ℕ, ◌+◌, ◌-◌, ◌*◌, ◌<◌, ◌≤◌}
+use Prim.Native.Nat.{ℕ, ◌+◌, ◌-◌, ◌*◌, ◌<◌, ◌≤◌, zero-le}
 use mathlib.Core.Path.{◌≡◌, refl, ap, sym, ◌∙◌}
 use mathlib.Core.Bool.{Bool, true, false}
 use mathlib.Core.List.{List, [], ◌∷◌}
@@ -12,11 +12,11 @@ use borrow.Author.Tests.{eqb-true, eqb-false, ltb-false}
 use Rattle.choose.specs.Ranged.{pick}
 use Rattle.attempt.specs.Lent.{inputs_by}
 use Rattle.attempt.specs.declared.Outcome.{Outcome}
-use Rattle.bus_memory.specs.Memory.{transfers, seen_of, stuck_of}
+use Rattle.bus_memory.specs.Memory.{transfers, seen_of, stuck_of, nothing_kept}
 use Rattle.control.specs.Next.{inputs_of}
 use Rattle.deck.specs.Elements.{sample_at}
-use Rattle.engine.specs.Run.{stepped_of, stopped_of, samples_from}
-use Rattle.engine.specs.RunEnds.{going_of, inputs_for, lent_rows}
+use Rattle.engine.specs.Run.{world, stepped_of, stopped_of, samples_from}
+use Rattle.engine.specs.RunEnds.{run_end, going_of, inputs_for, lent_rows}
 use Rattle.engine.proofs.Loop.{samples-step, samples-end, where-true, at_most, over, unlooked, measure, going, goes}
 use Rattle.rows.proofs.Steps.{row_at, scan_step, scan-end, filled-length}
 use Rattle.rows.specs.Packing.{key_of, merged_in, scanned_in, outputs_in, scan_in}
@@ -25,9 +25,10 @@ use Rattle.rows.specs.declared.Inputs.{Inputs}
 use Rattle.rows.specs.declared.Outputs.{Outputs}
 use Rattle.rows.specs.declared.Packed.{Packed}
 use Rattle.state.specs.File.{Leaves}
+use Rattle.state.specs.declared.Core.{Core}
 use Rattle.state.specs.declared.Sample.{Sample}
-use Rattle.memory.specs.Run.{Together, Attempts, code_at, seen_by, taken_in, stopped_at, next_of, run_by}
-use Rattle.memory.specs.Lent.{together_of, next_by, attempts_by}
+use Rattle.memory.specs.Run.{Together, together, Attempts, code_at, seen_by, taken_in, stopped_at, next_of, run_by}
+use Rattle.memory.specs.Lent.{ran_of, together_of, next_by, attempts_by}
 use Rattle.memory.specs.declared.Ran.{Ran}
 
 -- what is left of a run: nothing after a refusal
@@ -155,6 +156,19 @@ module _ (codes ws part samples : List ℕ) (n delay : ℕ) (start : Together) w
           let then : measure n r.end ≤ n - (i + 1) =
           at_most (eqb r.end.answer 0) (n - r.end.attempts) (n - (i + 1)) (λ z. omega (arith, counts.0 (eqb-true r.end.answer 0 z))) in
           omega (arith, now, then, goes n at.end g)
+
+pub begins : (codes ws part samples : List ℕ) (n delay : ℕ) (file : List ℕ) (first : Core) (requests bytes : List ℕ)
+    → Good codes ws part samples n delay (together (world file first 0 0 0 requests) bytes nothing_kept) (ran_of
+    (run_end first 0 0 0) nothing_kept) file requests bytes
+begins codes ws part samples n delay file first requests bytes = record {
+  few = zero-le;
+  counted = zero-le;
+  long = refl;
+  size = refl;
+  same =
+      ap (λ (k : ℕ). run_by (attempts_by codes ws (lent_rows part)) ws delay (samples_from samples 0 k)
+      (together (world file first 0 0 0 requests) bytes nothing_kept)) (omega arith);
+}
 
 -- what the loop over the rows leaves is what they put out
 module _ (part : List ℕ) (table : List Packed) (m : ℕ) (et : table ≡ table_of part) (em : m ≡ whole_rows part) where

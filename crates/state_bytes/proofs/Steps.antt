@@ -5,7 +5,7 @@ use Prim.Native.Nat.{ℕ, zero, suc, ◌+◌, ◌<◌, ◌≤◌}
 use native.Mathlib.Numerals.{add-one}
 use native.Mathlib.Omega.{arith}
 use lib.ListN.{length, get_or, take, drop, set, replicate, length-append, length-drop, length-replicate, drop_of_length-le}
-use lib.Seq.{paste, paste-suc, take_at}
+use lib.Seq.{paste, paste-suc, length-paste, take_at}
 use borrow.Author.Tests.{eq-eqb, ne_eqb}
 use Rattle.state.specs.declared.Core.{Core}
 use Rattle.state_bytes.specs.Bytes.{state_bytes, padded, file_of, tail_of, stored_of}
@@ -30,6 +30,9 @@ pub fill_more : (d : List ℕ) (at : ℕ) (s : List ℕ) (n i b : ℕ) → at + 
     → set (paste d at (padded s n) i) (at + i) b ≡ paste d at (padded s n) (i + 1)
 fill_more d at s n i b l h e =
     rw (e, ← padded-at s n i, add-one) (paste-suc d at (padded s n) i 0 (omega arith) (omega (arith, padded-length s n)))
+
+pub fill-length : (d : List ℕ) (at : ℕ) (s : List ℕ) (n i : ℕ) → at + n ≤ length d → i ≤ n → length (paste d at (padded s n) i) ≡ length d
+fill-length d at s n i l h = length-paste d at (padded s n) i (omega arith) (omega (arith, padded-length s n))
 
 -- a file of 26 that `load` has filled
 pub loaded : (d s : List ℕ) → length d ≡ 26 → filled_of d 0 s 26 ≡ file_of s
