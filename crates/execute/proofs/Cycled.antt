@@ -49,7 +49,7 @@ module _ (g : ℕ) (f : Flags) (code b a : ℕ) where
 
   module _ (xs : List ℕ) (y : Cycle) where
     two : (t : Bool) → high_first_of (plan_of code f).kind ≡ t → code / 2 % 2 ≡ 1 → flagged (cycled 2 (cycled_to xs y false true t))
-      ≡ operation_of xs g f code b a
+        ≡ operation_of xs g f code b a
     unfolding operation_of two_cycles_of after_word_of
     two true e h = rw (h, e)
     two false e h = rw (h, e)
