@@ -3,27 +3,25 @@
 
 use code::Class;
 use forms::Form;
-use std::alloc::{AllocError, Global};
-use std::fmt::Write;
 use std::io;
 
 // A name has no space between two letters.
-fn letters(page: &mut String, name: u32) -> Result<(), AllocError> {
+fn letters(rt: &impl Print, name: u32) -> io::Result<()> {
     for letter in name.to_be_bytes() {
         if letter != b' ' {
-            page.push(char::from(letter))?;
+            rt.print(char::from(letter))?;
         }
     }
     Ok(())
 }
 
-fn codes(page: &mut String, top: u8, class: Class) -> Result<(), AllocError> {
+fn codes(rt: &impl Print, top: u8, class: Class) -> io::Result<()> {
     let last = match class {
         Class::Jump => top | 0x07,
         Class::Literal => top | 0x0F,
-        _ => return write!(page, "{top:02X}"),
+        _ => return print!(rt; "{top:02X}"),
     };
-    write!(page, "{top:02X}-{last:02X}")
+    print!(rt; "{top:02X}-{last:02X}")
 }
 
 // Both designators, in the order in which they are typed, or one and the don't-care one.
@@ -50,41 +48,34 @@ fn operands(class: Class, form: Form) -> &'static str {
     }
 }
 
-fn odd_code(page: &mut String, top: u8) -> Result<(), AllocError> {
+fn odd_code(rt: &impl Print, top: u8) -> io::Result<()> {
     if top != 0xFF && forms::has_twin(top) {
-        write!(page, "{:02X}", top + 1)?;
+        print!(rt; "{:02X}", top + 1)?;
     }
     Ok(())
 }
 
 // A line at a mnemonic's first top byte.
-fn line(page: &mut String, top: u8) -> Result<(), AllocError> {
+fn line(rt: &impl Print, top: u8) -> io::Result<()> {
     let name = names::mnemonic_of(top);
     if forms::top_named(name) != top as usize {
         return Ok(());
     }
     let class = code::class_of(top);
-    page.push_str("| ")?;
-    letters(page, name)?;
-    page.push_str(" | ")?;
-    codes(page, top, class)?;
-    write!(page, " | {} | ", operands(class, forms::form_of(top)))?;
-    odd_code(page, top)?;
-    page.push_str(" |\n")
-}
-
-fn table(alloc: Global) -> Result<String, AllocError> {
-    let mut page = String::from_str(
-        alloc,
-        "| Mnemonic | Code | Operands | Code with ODD |\n|---|---|---|---|\n",
-    )?;
-    for top in 0..=u8::MAX {
-        line(&mut page, top)?;
-    }
-    Ok(page)
+    print!(rt; "| ")?;
+    letters(rt, name)?;
+    print!(rt; " | ")?;
+    codes(rt, top, class)?;
+    print!(rt; " | {} | ", operands(class, forms::form_of(top)))?;
+    odd_code(rt, top)?;
+    println!(rt; " |")
 }
 
 fn main(rt: HostRuntime) -> io::Result<()> {
-    let page = table(rt.alloc())?;
-    print!(rt; "{page}")
+    println!(rt; "| Mnemonic | Code | Operands | Code with ODD |")?;
+    println!(rt; "|---|---|---|---|")?;
+    for top in 0..=u8::MAX {
+        line(&rt, top)?;
+    }
+    Ok(())
 }

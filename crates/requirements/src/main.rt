@@ -4,8 +4,6 @@
 
 use code::{Apart, Class, CodeRow};
 use state::Bus;
-use std::alloc::{AllocError, Global};
-use std::fmt::Write;
 use std::io::{self, Read};
 
 const HEAD: &str = "\
@@ -57,23 +55,23 @@ const UNLISTED: &str = "
 ";
 
 // A name has no space between two letters.
-fn mnemonic(page: &mut String, top: u8) -> Result<(), AllocError> {
+fn mnemonic(rt: &impl Print, top: u8) -> io::Result<()> {
     for letter in names::mnemonic_of(top).to_be_bytes() {
         if letter != b' ' {
-            page.push(char::from(letter))?;
+            rt.print(char::from(letter))?;
         }
     }
     Ok(())
 }
 
 // JMP and RFS have 8 codes and each literal instruction 16, "when literals and jump addresses are not told apart".
-fn codes(page: &mut String, top: u8, class: Class) -> Result<(), AllocError> {
+fn codes(rt: &impl Print, top: u8, class: Class) -> io::Result<()> {
     let last = match class {
         Class::Jump => top | 0x07,
         Class::Literal => top | 0x0F,
-        _ => return write!(page, "{top:02X}"),
+        _ => return print!(rt; "{top:02X}"),
     };
-    write!(page, "{top:02X}-{last:02X}")
+    print!(rt; "{top:02X}-{last:02X}")
 }
 
 fn format(class: Class) -> &'static str {
@@ -91,16 +89,16 @@ const STATUS: [(u8, &str); 4] = [(0x08, "NB "), (0x04, "ZB "), (0x02, "C4 "), (0
 const CONDITION: [(u8, &str); 4] = [(0x80, "N "), (0x40, "Z "), (0x20, "V "), (0x10, "C ")];
 
 // Those of the flags that are in the set, each with a space after it.
-fn flags(page: &mut String, set: u8, names: [(u8, &str); 4]) -> Result<(), AllocError> {
+fn flags(rt: &impl Print, set: u8, names: [(u8, &str); 4]) -> io::Result<()> {
     let mut none = true;
     for (bit, name) in names {
         if set & bit != 0 {
-            page.push_str(name)?;
+            rt.print(name)?;
             none = false;
         }
     }
     if none {
-        page.push_str("none ")?;
+        print!(rt; "none ")?;
     }
     Ok(())
 }
@@ -142,107 +140,97 @@ fn with_q1(code: u8) -> &'static str {
     }
 }
 
-fn refusals(page: &mut String, options: u8) -> Result<(), AllocError> {
+fn refusals(rt: &impl Print, options: u8) -> io::Result<()> {
     match options {
-        15 => page.push_str("none "),
-        _ => write!(page, "8: b over {options}. "),
+        15 => print!(rt; "none "),
+        _ => print!(rt; "8: b over {options}. "),
     }
 }
 
-fn facts(page: &mut String, top: u8, row: CodeRow) -> Result<(), AllocError> {
-    write!(page, "{} | ", row.cycles)?;
-    flags(page, row.flags, STATUS)?;
-    page.push_str("| ")?;
-    flags(page, row.flags, CONDITION)?;
-    write!(
-        page,
+fn facts(rt: &impl Print, top: u8, row: CodeRow) -> io::Result<()> {
+    print!(rt; "{} | ", row.cycles)?;
+    flags(rt, row.flags, STATUS)?;
+    print!(rt; "| ")?;
+    flags(rt, row.flags, CONDITION)?;
+    print!(rt;
         "| {} | {} | {} | ",
         stores(row.stores),
         waits(row.waits),
         with_q1(top)
     )?;
-    refusals(page, row.options)
+    refusals(rt, row.options)
 }
 
-fn key(page: &mut String, top: u8) -> Result<(), AllocError> {
-    write!(page, "{top:02X}-")?;
+fn key(rt: &impl Print, top: u8) -> io::Result<()> {
+    print!(rt; "{top:02X}-")?;
     match code::class_of(top) {
-        Class::Unlisted => page.push_str("unlisted"),
-        _ => mnemonic(page, top),
+        Class::Unlisted => print!(rt; "unlisted"),
+        _ => mnemonic(rt, top),
     }
 }
 
 // The last cell: how many vectors, and where they are.
-fn checked(page: &mut String, top: u8, vectors: u8) -> Result<(), AllocError> {
-    write!(page, "| [{vectors}](../vectors/")?;
-    key(page, top)?;
-    page.push_str(".txt) |\n")
+fn checked(rt: &impl Print, top: u8, vectors: u8) -> io::Result<()> {
+    print!(rt; "| [{vectors}](../vectors/")?;
+    key(rt, top)?;
+    println!(rt; ".txt) |")
 }
 
 // Designators 0 and the first option are refused by 6 only: that is CAD, which never completes.
-fn requirement(
-    page: &mut String,
-    top: u8,
-    row: CodeRow,
-    refusal: u8,
-    vectors: u8,
-) -> Result<(), AllocError> {
-    page.push_str("| ")?;
-    key(page, top)?;
-    page.push_str(" | ")?;
-    codes(page, top, row.class)?;
-    write!(page, " | {} | ", format(row.class))?;
+fn requirement(rt: &impl Print, top: u8, row: CodeRow, refusal: u8, vectors: u8) -> io::Result<()> {
+    print!(rt; "| ")?;
+    key(rt, top)?;
+    print!(rt; " | ")?;
+    codes(rt, top, row.class)?;
+    print!(rt; " | {} | ", format(row.class))?;
     match refusal {
-        0 => facts(page, top, row)?,
-        _ => page.push_str("| | | | | | 6: the engine always refuses it. ")?,
+        0 => facts(rt, top, row)?,
+        _ => print!(rt; "| | | | | | 6: the engine always refuses it. ")?,
     }
-    checked(page, top, vectors)
+    checked(rt, top, vectors)
 }
 
-fn unlisted(page: &mut String, top: u8, vectors: u8) -> Result<(), AllocError> {
-    page.push_str("| ")?;
-    key(page, top)?;
-    write!(page, " | {top:02X} | 6: code unlisted. ")?;
-    checked(page, top, vectors)
+fn unlisted(rt: &impl Print, top: u8, vectors: u8) -> io::Result<()> {
+    print!(rt; "| ")?;
+    key(rt, top)?;
+    print!(rt; " | {top:02X} | 6: code unlisted. ")?;
+    checked(rt, top, vectors)
 }
 
 // A line at an instruction's first top byte, or at an unlisted one, where it is of the table asked for.
-fn line(page: &mut String, top: u8, listed: bool, vectors: u8) -> Result<(), AllocError> {
+fn line(rt: &impl Print, top: u8, listed: bool, vectors: u8) -> io::Result<()> {
     match code::taken_apart(top as u32 * 0x100) {
         Apart::Word(f) if listed && f.code == top => {
             let row = code::row_of(top);
-            requirement(page, top, row, checks::refusal(row, top, 0), vectors)
+            requirement(rt, top, row, checks::refusal(row, top, 0), vectors)
         }
-        Apart::Unlisted if !listed => unlisted(page, top, vectors),
+        Apart::Unlisted if !listed => unlisted(rt, top, vectors),
         _ => Ok(()),
     }
 }
 
-fn lines(page: &mut String, listed: bool, vectors: &[u8; 256]) -> Result<(), AllocError> {
+fn lines(rt: &impl Print, listed: bool, vectors: &[u8; 256]) -> io::Result<()> {
     for top in 0..=u8::MAX {
-        line(page, top, listed, vectors[top as usize])?;
+        line(rt, top, listed, vectors[top as usize])?;
     }
     Ok(())
 }
 
-fn document(alloc: Global, vectors: &[u8; 256]) -> Result<String, AllocError> {
-    let mut page = String::new(alloc);
+fn document(rt: &impl Print, vectors: &[u8; 256]) -> io::Result<()> {
     for text in [HEAD, COLUMNS, OUTPUTS, Q1, TABLE] {
-        page.push_str(text)?;
+        rt.print(text)?;
     }
-    lines(&mut page, true, vectors)?;
-    page.push_str(UNLISTED)?;
-    lines(&mut page, false, vectors)?;
-    Ok(page)
+    lines(rt, true, vectors)?;
+    rt.print(UNLISTED)?;
+    lines(rt, false, vectors)
 }
 
 fn main(rt: HostRuntime) -> io::Result<()> {
     let mut vectors = [0u8; 256];
-    if rt.reader().read_exact(&mut vectors).is_err() {
+    if rt.stdin().read_exact(&mut vectors).is_err() {
         return println!(rt;
             "standard input has to be 256 bytes: the number of vectors of each top byte"
         );
     }
-    let page = document(rt.alloc(), &vectors)?;
-    print!(rt; "{page}")
+    document(&rt, &vectors)
 }
