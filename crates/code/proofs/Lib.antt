@@ -1,3 +1,4 @@
+pub mod Classes
 pub mod Digits
 pub mod Shape
 pub mod Tops

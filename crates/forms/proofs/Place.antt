@@ -1,13 +1,15 @@
--- Where a name first stands among the mnemonics: what is found there is the name.
+-- Where a name first stands among the mnemonics. Step by step: it stands at i, or is looked for from i + 1 on. And what is found stands there.
 use Prim.Native.Nat.{ℕ, suc, ◌+◌, ◌<◌}
 use mathlib.Core.Path.{◌≡◌, refl, sym, ◌∙◌}
 use mathlib.Core.Bool.{Bool, true, false}
 use mathlib.Core.List.{List, [], ◌∷◌}
 use native.Mathlib.Nat.{add-zero, add-suc, suc-add}
+use native.Mathlib.Numerals.{add-one}
 use native.Mathlib.Omega.{arith}
 use lib.Dec.{eqb}
-use lib.ListN.{length, get_or}
-use borrow.Author.Tests.{eqb-true}
+use lib.ListN.{length, get_or, drop}
+use lib.Seq.{drop-cons, drop-length}
+use borrow.Author.Tests.{eq-eqb, ne_eqb, eqb-true}
 use Rattle.choose.specs.Ranged.{pick}
 use Rattle.choose.proofs.Table.{firsts_at}
 use Rattle.names.specs.Mnemonics.{mnemonic_of, all_mnemonics}
@@ -16,6 +18,16 @@ use Rattle.forms.specs.Named.{place_from}
 all-256 : length all_mnemonics ≡ 0x100
 unfolding all_mnemonics
 all-256 = refl
+
+module _ (n i : ℕ) (h : i < 0x100) where
+  pub place_here : get_or all_mnemonics i 0 ≡ n → place_from n i (drop i all_mnemonics) ≡ i
+  place_here e = rw (drop-cons all_mnemonics i 0 (rw all-256 h), eq-eqb _ _ e)
+
+  pub place-next : (get_or all_mnemonics i 0 ≡ n → ⊥) → place_from n i (drop i all_mnemonics) ≡ place_from n (i + 1) (drop (i + 1) all_mnemonics)
+  place-next e = rw (add-one, drop-cons all_mnemonics i 0 (rw all-256 h), ne_eqb _ _ e)
+
+pub place_end : (n : ℕ) → place_from n 0x100 (drop 0x100 all_mnemonics) ≡ 0x100
+place_end n = rw (← all-256) (rw (drop-length all_mnemonics))
 
 -- a place k of the list, counted from i, where n stands; or the list's end
 data Found (n i : ℕ) (xs : List ℕ) (place : ℕ) : Type 0 where

@@ -1,10 +1,15 @@
--- What the code's tests of a word come to.
-use Prim.Native.Nat.{ℕ, ◌+◌, ◌<◌}
-use mathlib.Core.Path.{◌≡◌, refl, sym}
+-- Steps of the code's way: two pieces one after the other, and what the tests of a word come to.
+use Prim.Native.Nat.{ℕ, ◌+◌, ◌-◌, ◌<◌}
+use mathlib.Core.Path.{◌≡◌, refl, ◌∙◌, sym}
 use mathlib.Core.Bool.{Bool, true, false, not, ◌&&◌, ◌||◌, false≢true}
+use mathlib.Core.List.{List, []}
 use native.Mathlib.Omega.{arith}
+use lib.ListN.{take, drop}
+use lib.Seq.{get_or-drop, drop-drop}
 use borrow.Author.Tests.{not-false}
 use Rattle.choose.specs.Ranged.{bit}
+use Rattle.pieces.specs.Parts.{pieces_of, piece_of}
+use Rattle.pieces.specs.Counted.{PieceAt}
 use Rattle.code.specs.Word.{together_of}
 use Rattle.code.specs.declared.Together.{Together}
 use Rattle.forms.specs.Forms.{form_of}
@@ -13,7 +18,15 @@ use Rattle.forms.proofs.Laws.{twin-below}
 use Rattle.line.specs.Line.{fits_form, fields_for, word_for}
 use Rattle.line.specs.declared.Tail.{Tail}
 
--- the two tests of a word
+-- a piece, and the first after it
+module _ (line : List ℕ) (at from to start end : ℕ) (one : PieceAt line at from to) (two : PieceAt line to start end) where
+  pub second-piece : take (end - start) (drop start line) ≡ piece_of (pieces_of (drop at line)) 1
+  second-piece = two.first ∙ rw one.others (get_or-drop 1 (pieces_of (drop at line)) 0 [])
+
+  pub after_two : pieces_of (drop end line) ≡ drop 2 (pieces_of (drop at line))
+  after_two = two.others ∙ rw one.others (drop-drop 1 1 (pieces_of (drop at line)))
+
+-- ---- the two tests of a word
 failed : (fits good odd twin : Bool) → not fits || not good ≡ true → fits && (good && (not odd || twin)) ≡ false
 failed true true odd twin e = absurd (false≢true e)
 failed true false odd twin e = refl

@@ -1,12 +1,12 @@
--- One step of what the loops go through: a word, a number more.
+-- One step of what the loops go through: a byte, a word, a number more.
 use Prim.Native.Nat.{ℕ, zero, suc, ◌+◌, ◌*◌, ◌-◌, ◌<◌, ◌≤◌}
 use mathlib.Core.Path.{◌≡◌, refl, ap, ◌∙◌}
 use mathlib.Core.List.{List, [], ◌∷◌, ◌++◌}
 use native.Mathlib.Numerals.{add-one}
 use native.Mathlib.Omega.{arith}
-use borrow.Author.Tests.{ne_eqb}
-use lib.ListN.{length, take, drop, replicate, length-replicate}
-use lib.Seq.{sets, sets-eq, take-append_seam, length-sets}
+use borrow.Author.Tests.{eq-eqb, ne_eqb}
+use lib.ListN.{length, get_or, take, drop, set, replicate, length-replicate}
+use lib.Seq.{sets, sets-eq, drop-cons, take-append_seam, length-sets}
 use Rattle.choose.specs.Below.{firsts}
 use Rattle.code.specs.Word.{apart_of, number_of}
 use Rattle.numbers.specs.Numbers.{word_at}
@@ -18,6 +18,13 @@ use Rattle.listing.specs.Listed.{first_with, word_line, listing_from}
 pub length-firsts : (f : ℕ → ℕ) (i n : ℕ) → length (firsts f i n) ≡ n
 length-firsts f i zero = refl
 length-firsts f i (suc n) = ap suc (length-firsts f (suc i) n)
+
+-- the bytes from i on: the first of them, and the others
+pub sets-step : (l : List ℕ) (at i : ℕ) (bs : List ℕ) → i < length bs
+    → sets l (at + i) (drop i bs) ≡ sets (set l (at + i) (get_or bs i 0)) (at + (i + 1)) (drop (i + 1) bs)
+sets-step l at i bs h =
+    let e : at + (i + 1) ≡ suc (at + i) = omega arith in
+    rw (e, add-one, drop-cons bs i 0)
 
 -- a word, and the words after it
 pub word-step : (l : List ℕ) (i w : ℕ) (ws : List ℕ)
@@ -54,7 +61,11 @@ module _ (s : List ℕ) (n i : ℕ) (h : i < n) where
   left : n - i ≡ suc (n - (i + 1))
   left = omega arith
 
-  -- a word without the number: it is looked for among the others
+  -- the first word has the number
+  pub first-here : (k : ℕ) → number_of (apart_of (word_at s i)) ≡ k → first_with k i (firsts (word_at s) i (n - i)) ≡ i
+  first-here k e = rw (left, eq-eqb _ _ e)
+
+  -- or it is looked for among the others
   pub first-after : (k : ℕ) → (number_of (apart_of (word_at s i)) ≡ k → ⊥)
       → first_with k i (firsts (word_at s) i (n - i)) ≡ first_with k (i + 1) (firsts (word_at s) (i + 1) (n - (i + 1)))
   first-after k e = rw (left, ne_eqb _ _ e, add-one)

@@ -9,8 +9,8 @@ use native.Mathlib.Numerals.{add-one}
 use native.Mathlib.Omega.{arith}
 use lib.Dec.{eqb, eqb→eq, ltb, leb}
 use lib.ListN.{length, get_or, take, drop, length-drop, drop_of_length-le}
-use lib.Seq.{drop-cons, drop-drop, drop-length}
-use borrow.Author.Tests.{eq-eqb, ne_eqb, ltb-true, leb-true, leb-false, lt-ltb, le-ltb}
+use lib.Seq.{drop-cons, drop-drop, drop-length, length-take-le}
+use borrow.Author.Tests.{eq-eqb, ne_eqb, ltb-true, ltb-false, leb-true, leb-false, lt-ltb, le-ltb}
 use Rattle.choose.specs.Ranged.{pick, ranged}
 use Rattle.choose.proofs.Table.{below}
 use Rattle.choose.proofs.Tests.{three}
@@ -43,6 +43,10 @@ spaces-le : (l : List ℕ) → spaces_of l ≤ length l
 unfolding spaces_of
 spaces-le [] = zero-le
 spaces-le (c ∷ t) = cases (eqb c 32) (λ e. rw e (omega (arith, spaces-le t))) (λ e. rw e zero-le)
+
+-- a byte that is there, whatever would stand past the end
+pub byte-there : (p : List ℕ) (i d e : ℕ) → i < length p → get_or p i d ≡ get_or p i e
+byte-there p i d e h = cc (drop-cons p i d h, drop-cons p i e h)
 
 module _ (mark : ℕ) (t : List ℕ) (i : ℕ) where
   pub mark-here : i < length t → get_or t i 0 ≡ mark → length_to mark (drop i t) ≡ 0
@@ -174,6 +178,10 @@ none_first (p ∷ ps) h e = absurd (omega (arith, h.0))
 pub no-empty : (l : List ℕ) → piece_of (pieces_of l) 0 ≡ [] → pieces_of l ≡ []
 no-empty l e = none_first (pieces_of l) (all-pieces l) (ap length e)
 
+pub first-and-others : (ps : List (List ℕ)) → 0 < length (piece_of ps 0) → ps ≡ piece_of ps 0 ∷ drop 1 ps
+first-and-others [] h = absurd (omega arith)
+first-and-others (p ∷ ps) h = refl
+
 -- ---- the code's way to a piece
 pub piece-found : (line : List ℕ) (at from to : ℕ) → at ≤ length line → from ≡ at + spaces_of (drop at line)
     → to ≡ from + length_to 32 (drop from line) → PieceAt line at from to
@@ -208,6 +216,13 @@ piece-past line at h =
 
 -- what a piece found says of the pieces
 module _ (line : List ℕ) (at from to : ℕ) (found : PieceAt line at from to) where
+  pub piece-here : from < to → pieces_of (drop at line) ≡ take (to - from) (drop from line) ∷ pieces_of (drop to line)
+  piece-here h =
+      let size : length (take (to - from) (drop from line)) ≡ to - from =
+      length-take-le (to - from) (drop from line) (omega (arith, length-drop from line, found.within)) in
+      let some : 0 < length (piece_of (pieces_of (drop at line)) 0) = rw (← found.first, size) (omega arith) in
+      rw (found.first, found.others) (first-and-others (pieces_of (drop at line)) some)
+
   pub no-piece : to ≤ from → pieces_of (drop at line) ≡ []
   no-piece h =
       let none : to - from ≡ 0 = omega arith in
@@ -251,6 +266,10 @@ more-le n c =
     cases (leb 0x10 (digit_of c))
     (λ d. rw (e, d) (omega arith))
     (λ d. rw (e, d) (omega (arith, leb-false 0x80 n e, leb-false 0x10 (digit_of c) d))))
+
+-- no digit is left
+pub read-end : (n : ℕ) → n ≤ 0x800 → read_from n [] ≡ n
+read-end n h = cases (ltb n 0x800) (λ e. rw e) (λ e. rw e (omega (arith, ltb-false n 0x800 e)))
 
 pub read_number : (p : List ℕ) → 0 < length p → value_of p ≡ read_from 0 p
 unfolding value_of
