@@ -72,7 +72,7 @@ module _ (s : List ℕ) (n i : ℕ) (h : i < n) where
 
   -- the line of the first word, and those of the others
   pub listing_step : listing_from i (firsts (word_at s) i (n - i))
-    ≡ word_line i (word_at s i) ++ listing_from (i + 1) (firsts (word_at s) (i + 1) (n - (i + 1)))
+      ≡ word_line i (word_at s i) ++ listing_from (i + 1) (firsts (word_at s) (i + 1) (n - (i + 1)))
   unfolding listing_from
   listing_step = rw (left, add-one)
 
