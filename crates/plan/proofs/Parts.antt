@@ -38,3 +38,15 @@ split {P} x n f g = go (ltb x n) refl
     go : (t : Bool) → ltb x n ≡ t → P
     go true e = f (ltb-true x n e)
     go false e = g (ltb-false x n e)
+
+-- x is none of the k numbers from n on; then where it isn't below n, it is past them
+abbrev pub Unlike : ℕ → ℕ → ℕ → Type 0
+Unlike x n zero = Unit
+Unlike x n (suc k) = Unlike x n k × (x ≡ n + k → ⊥)
+
+pub beyond : (x n k : ℕ) → n ≤ x → Unlike x n k → n + k ≤ x
+beyond x n zero l u = omega arith
+beyond x n (suc k) l u =
+    let h = beyond x n k l u.0 in
+    let e = u.1 in
+    omega arith
