@@ -2,13 +2,10 @@
 // returns and comments are taken off first, and so are lines with nothing else in them.
 #![tactic(auto)]
 
-ghost use Rattle.std.specs.Prelude.{◌≤◌, ◌≡◌, IfOk, length, vec_capacity};
+ghost use Rattle.std.specs.Prelude.{◌≤◌, ◌≡◌, length};
+ghost use Rattle.std.specs.Counts.{IsPrefixLen};
 
-use std::alloc::{AllocError, Global};
-use std::io::{self, Read};
-
-// One byte more than the longest text, so that a longer one is seen to be longer.
-const ROOM: usize = 1_048_577;
+use std::io;
 
 // A tab, a carriage return and a byte of a comment as a space.
 fn plain(c: u8, comment: bool) -> u8 {
@@ -65,7 +62,7 @@ fn line_end(text: &[u8], at: usize) -> usize
 // Clears every line. The newline of one that has nothing becomes a space, which joins it to the next as leading spaces.
 // Answers where the last line that has something ends.
 fn lines_cleared(text: &mut [u8], numbers: &mut [usize; 2050]) -> usize
-    ensures { result ≤ length text.new }
+    ensures { IsPrefixLen result text.new }
 {
     let mut last = 0;
     let mut place = 0;
@@ -111,20 +108,18 @@ fn assemble(rt: &(impl Print + Eprint), text: &mut [u8]) -> io::Result<()> {
     Ok(())
 }
 
-fn room(alloc: Global) -> Result<Vec<u8>, AllocError>
-    ensures { IfOk result (λ text. 1048577 ≡ vec_capacity text) }
+// One byte more than the longest text, so that a longer one is seen to be longer.
+fn room() -> [u8; 1048577]
+    ensures { 1048577 ≡ length result }
 {
-    Vec::with_capacity(alloc, ROOM)
+    [0; 1048577]
 }
 
 fn main(rt: HostRuntime) -> io::Result<()> {
-    let mut text = room(rt.alloc())?;
-    let read = rt.reader().take(ROOM as u64).read_to_end(&mut text);
-    if read.is_err() {
-        return eprintln!(rt; "the text cannot be read");
+    let mut text = room();
+    match input::read_full(&mut rt.stdin(), &mut text) {
+        Err(_) => eprintln!(rt; "the text cannot be read"),
+        Ok(1048577) => eprintln!(rt; "the text is over 1,048,576 bytes"),
+        Ok(n) => assemble(&rt, &mut text[..n]),
     }
-    if text.len() == ROOM {
-        return eprintln!(rt; "the text is over 1,048,576 bytes");
-    }
-    assemble(&rt, &mut text)
 }

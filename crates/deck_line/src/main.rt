@@ -4,11 +4,8 @@
 
 use state_bytes::STATE_BYTES;
 use std::env::FillError;
-use std::io::{self, Read};
+use std::io;
 use std::rt::Env;
-
-// One byte more than the longest deck, so that a longer one is seen to be longer.
-const ROOM: usize = 65_537;
 
 // LC and the flag byte of a state's bytes.
 fn lc_and_flags(state: &[u8]) -> (u16, u8) {
@@ -16,8 +13,8 @@ fn lc_and_flags(state: &[u8]) -> (u16, u8) {
 }
 
 // A deck of 65,536 bytes has fewer samples than the places here. On 1-4 and 24 there is no other state than the deck's own.
-fn line(rt: &(impl Print + AllocGlobal), deck: &[u8], marking: u32) -> io::Result<()> {
-    let mut requests = vec![in rt.alloc(); 0u8; 65_536]?;
+fn line(rt: &impl Print, deck: &[u8], marking: u32) -> io::Result<()> {
+    let mut requests = [0u8; 65_536];
     let mut state = [0u8; STATE_BYTES];
     let r = engine::run(deck, &mut requests, &mut state, marking);
     let (answer, attempts, microcycles) = (r.answer, r.attempts, r.microcycles);
@@ -65,8 +62,9 @@ fn marking(rt: &impl Env) -> u32 {
     }
 }
 
+// One byte more than the longest deck, so that a longer one is seen to be longer. An input that cannot be read is an empty one.
 fn main(rt: HostRuntime) -> io::Result<()> {
-    let mut deck = Vec::with_capacity(rt.alloc(), ROOM)?;
-    rt.reader().take(ROOM as u64).read_to_end(&mut deck)?;
-    line(&rt, &deck, marking(&rt))
+    let mut buffer = [0u8; 65_537];
+    let n = input::read_full(&mut rt.stdin(), &mut buffer).unwrap_or(0);
+    line(&rt, &buffer[..n], marking(&rt))
 }

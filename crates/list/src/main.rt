@@ -1,10 +1,7 @@
 // Lists the words whose bytes are on standard input, or writes one line to standard error.
 #![tactic(auto)]
 
-use std::io::{self, Read};
-
-// One byte more than 2,048 words have, so that a longer input is seen to be longer.
-const ROOM: usize = 8193;
+use std::io;
 
 // 2 with address 2,048 is of no word.
 fn refuse(rt: &impl Eprint, answer: u32, address: u32) -> io::Result<()> {
@@ -19,24 +16,24 @@ fn refuse(rt: &impl Eprint, answer: u32, address: u32) -> io::Result<()> {
 }
 
 // No listing of 2,048 words is longer than 81,920 bytes, so the lister never answers 27.
-fn list(rt: &(impl Print + Eprint + AllocGlobal), words: &[u8]) -> io::Result<()> {
-    let mut text = vec![in rt.alloc(); 0u8; 81_920]?;
+fn list(rt: &(impl Print + Eprint), words: &[u8]) -> io::Result<()> {
+    let mut text = [0u8; 81_920];
     let r = listing::list_words(words, &mut text);
     if r.answer != 0 {
         return refuse(rt, r.answer, r.at);
     }
-    text.truncate(r.length as usize);
-    if rt.write_all(&text).is_err() {
+    let n = text.len().min(r.length as usize);
+    if rt.write_all(&text[..n]).is_err() {
         eprintln!(rt; "the listing cannot be written")?;
     }
     Ok(())
 }
 
+// One byte more than 2,048 words have, so that a longer input is seen to be longer.
 fn main(rt: HostRuntime) -> io::Result<()> {
-    let mut words = Vec::with_capacity(rt.alloc(), ROOM)?;
-    let read = rt.reader().take(ROOM as u64).read_to_end(&mut words);
-    if read.is_err() {
-        return eprintln!(rt; "the words cannot be read");
+    let mut buffer = [0u8; 8193];
+    match input::read_full(&mut rt.stdin(), &mut buffer) {
+        Ok(n) => list(&rt, &buffer[..n]),
+        Err(_) => eprintln!(rt; "the words cannot be read"),
     }
-    list(&rt, &words)
 }

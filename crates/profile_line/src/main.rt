@@ -4,11 +4,7 @@
 
 use code::Apart;
 use state_bytes::STATE_BYTES;
-use std::io::{self, Read};
-use std::str;
-
-// One byte more than the longest deck, so that a longer input is seen to be longer.
-const ROOM: usize = 65_537;
+use std::{io, str};
 
 fn rule(number: u32) -> &'static str {
     match number {
@@ -76,11 +72,11 @@ fn words_of(input: &[u8]) -> &[u8] {
     deck::words(input, opened.layout)
 }
 
+// One byte more than the longest deck, so that a longer input is seen to be longer.
 fn main(rt: HostRuntime) -> io::Result<()> {
-    let mut input = Vec::with_capacity(rt.alloc(), ROOM)?;
-    let read = rt.reader().take(ROOM as u64).read_to_end(&mut input);
-    if read.is_err() {
-        return eprintln!(rt; "the words cannot be read");
+    let mut buffer = [0u8; 65_537];
+    match input::read_full(&mut rt.stdin(), &mut buffer) {
+        Ok(n) => check(&rt, words_of(&buffer[..n])),
+        Err(_) => eprintln!(rt; "the words cannot be read"),
     }
-    check(&rt, words_of(&input))
 }

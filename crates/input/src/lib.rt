@@ -1,0 +1,23 @@
+// Reading into a buffer of the caller's, for the programs.
+#![tactic(auto)]
+
+ghost use Rattle.std.specs.Io.{ReadsAtMost};
+
+use std::io::{self, Read};
+
+// Reads until the buffer is full, the input ends or a read fails, and answers how many bytes stand at the buffer's start.
+// A read that fails after some bytes ends the input; only a first one that fails is told.
+pub fn read_full(input: &mut impl Read, buffer: &mut [u8]) -> io::Result<usize>
+    ensures { ReadsAtMost result buffer.new }
+{
+    let mut done = 0;
+    while done < buffer.len() {
+        match input.read(&mut buffer[done..]) {
+            Ok(0) => break,
+            Ok(n) => done += n,
+            Err(e) if done == 0 => return Err(e),
+            Err(_) => break,
+        }
+    }
+    Ok(done)
+}
