@@ -67,7 +67,7 @@ rows-exactly s = (
       record {
         few = r.0;
         each = λ i l. (row-in-range (row_from s (i * 16))).0
-          (all-at (λ j. row_in_range (row_from s (j * 16))) _ i (sym (rows-every s (length s / 16)) ∙ r.1) l);
+            (all-at (λ j. row_in_range (row_from s (j * 16))) _ i (sym (rows-every s (length s / 16)) ∙ r.1) l);
       }),
   (λ a.
       rw (

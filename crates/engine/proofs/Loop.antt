@@ -69,7 +69,7 @@ module _ (codes ws : List ℕ) (o : Outputs) (s : Sample) (w : World) where
 
   -- an attempt that is not refused counts
   next-counts : ((next_by codes ws o s w).answer ≡ 0 → (next_by codes ws o s w).attempts ≡ w.attempts + 1)
-    × ((next_by codes ws o s w).attempts ≤ w.attempts + 1)
+      × ((next_by codes ws o s w).attempts ≤ w.attempts + 1)
   unfolding next_by
   next-counts = after _ (attempt_by codes ws o w.file w.core s) refl
 
@@ -105,7 +105,7 @@ unlooked-by true m ps i none = rw (none refl) (packed_none unseen ∙ sym (packe
 unlooked-by false m ps i none = refl
 
 pub unlooked : (m : ℕ) (ps : List Packed) (ws : List ℕ) (k : Core) (s : Sample) → scan_in (take m ps) (inputs_for m ws k s)
-  ≡ scan_in (take m ps) (inputs_by ws k s)
+    ≡ scan_in (take m ps) (inputs_by ws k s)
 unfolding inputs_for
 unlooked m ps ws k s = unlooked-by (eqb m 0) m ps (inputs_by ws k s) (eqb-true m 0)
 
@@ -147,7 +147,7 @@ module _ (codes ws part samples : List ℕ) (n : ℕ) (start : World) where
     ends g =
         let none : ltb i n ≡ false → run_by codes ws (lent_rows part) (samples_from samples i (n - i)) w ≡ w =
         λ h. ap (λ (ss : List Sample). run_by codes ws (lent_rows part) ss w) (samples-end samples i n (ltb-false i n h))
-          ∙ run_none codes ws (lent_rows part) w in
+        ∙ run_none codes ws (lent_rows part) w in
         sym (over (eqb at.answer 0) (ltb i n) _ w g none) ∙ good.same
 
     -- one more attempt, which leaves r

@@ -176,7 +176,7 @@ module _ (part : List ℕ) (table : List Packed) (m : ℕ) (et : table ≡ table
   table-long = rw (et, em, filled-length part (whole_rows part) (omega arith)) (omega arith)
 
   pub rows_left : (o key k : ℕ) → k < m → scanned_in (merged_in o (row_at table k) key) (drop (k + 1) (take m table)) key
-    ≡ scanned_in o (drop k (take m table)) key
+      ≡ scanned_in o (drop k (take m table)) key
   rows_left o key k l =
       rw (← get_or-take m table k empty_row l) (scan_step (take m table) k o key (rw (length-take-le m table table-long) l))
 

@@ -79,7 +79,7 @@ module _ (xs : List ℕ) (k : Core) (s : Sample) (small : s.dal < 0x1_0000) wher
       absurd (omega arith)
   class-keeps Class.Register word row o is waits =
       two-keeps (eqb (refusal_by row (top_of word) (word / 0x10 % 0x10)) 0) (waiting_by row (top_of word) s) (refusal_by row (top_of word)
-          (word / 0x10 % 0x10)) row
+      (word / 0x10 % 0x10)) row
       (fields_in Class.Register word) (word / 0x10 % 0x10) (word % 0x10) o is waits
 
   apart-keeps : (t u : Bool) (c : Class) (word : ℕ) (row : CodeRow) (o : Outputs) → Transfer (top_of word)

@@ -37,7 +37,7 @@ module _ (s : List ℕ) where
   abbrev Scanned : ℕ → ℕ → Report → Type 0
   Scanned i n r =
       ((a : ℕ) × (i ≤ a) × (a < i + n) × (rule_of a (word_at s a) ≡ 0 → ⊥) × ((j : ℕ) → i ≤ j → j < a → KeptAt j)
-        × (r ≡ report_of 25 a (rule_of a (word_at s a))))
+      × (r ≡ report_of 25 a (rule_of a (word_at s a))))
       ⊎ (((j : ℕ) → i ≤ j → j < i + n → KeptAt j) × (r ≡ report_of 0 0 0))
 
   -- one more kept before

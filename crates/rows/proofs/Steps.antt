@@ -19,7 +19,7 @@ row_at ps k = get_or ps k empty_row
 
 -- a step of `scan`: from what the row at k made of o, the rows that are left give the same
 pub scan_step : (ps : List Packed) (k o key : ℕ) → k < length ps → scanned_in (merged_in o (row_at ps k) key) (drop (k + 1) ps) key
-  ≡ scanned_in o (drop k ps) key
+    ≡ scanned_in o (drop k ps) key
 unfolding scanned_in
 scan_step ps k o key l = rw (add-one, drop-cons ps k empty_row l)
 

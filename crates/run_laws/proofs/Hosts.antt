@@ -38,7 +38,7 @@ module _ (deck requests state : List ℕ) (marking : ℕ) (h : deck_refusal_of d
 
   -- 0, "all samples used"
   pub host-full : (host_of deck requests state marking).report.answer ≡ 0 → (host_of deck requests state marking).report.attempts
-    ≡ length (samples_part deck) / 4
+      ≡ length (samples_part deck) / 4
   unfolding deck_run
   host-full =
       rw (← answers deck requests state marking h (deck_run deck requests (marking_of marking)) refl)

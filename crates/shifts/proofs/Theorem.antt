@@ -93,7 +93,7 @@ module _ (g a : ℕ) where
   unfolding register_of
   same-files word even es ds k m h l number others =
       ext_get_or 0 es ds (h.size ∙ sym l.size) (λ i j. by_place (λ (n : ℕ). get_or es n 0 ≡ get_or ds n 0) word (ra word number)
-          (high word even number) others i)
+      (high word even number) others i)
     where
       ra : (w : Bool) → number_in w es g a ≡ number_in w ds g a → register_of es g a ≡ register_of ds g a
       ra false e = e

@@ -104,7 +104,7 @@ module _ (xs : List ℕ) (g b a : ℕ) (f : Flags) where
   byte-keeps plan p odd = planned-keeps 1 plan odd _ (one-cycle g f plan xs (designators a p) odd)
 
   word_keeps : (plan : Plan) (p q : ℕ) (odd : Bool)
-    → KeepsRest (planned 2 plan odd) (two_cycles_of xs g f plan (designators a p) (designators (high_of a) q) odd)
+      → KeepsRest (planned 2 plan odd) (two_cycles_of xs g f plan (designators a p) (designators (high_of a) q) odd)
   unfolding stored_by ranged
   word_keeps plan p q odd = planned-keeps 2 plan odd _ (two-cycles g f plan (designators a p) (designators (high_of a) q) xs odd)
 

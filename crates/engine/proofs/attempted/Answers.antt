@@ -17,4 +17,4 @@ returns-clause-next c =
     let e = leaves c.attempt-made.new.file c.attempt-made.result in
     rw (c.run_end-2.ensures, c.put4.ensures)
     (next-steps a.codes.now a.words.now a.o _ (world_of a.at a.file.now a.requests.now) e
-        (rw (← c.sample.ensures) c.attempt-made.ensures) c.if-answer-ne0.false)
+    (rw (← c.sample.ensures) c.attempt-made.ensures) c.if-answer-ne0.false)
