@@ -1,14 +1,18 @@
 // Reading into a buffer of the caller's, for the programs.
 #![tactic(auto)]
 
+ghost use Rattle.std.specs.Prelude.{IfOk, OnErr, take};
 ghost use Rattle.std.specs.Io.{ReadsAtMost};
+ghost use Rattle.std.specs.Io.KnownBytes.{Consumes, Keeps};
 
 use std::io::{self, Read};
 
 // Reads until the buffer is full, the input ends or a read fails, and answers how many bytes stand at the buffer's start.
 // A read that fails after some bytes ends the input; only a first one that fails is told.
-pub fn read_full(input: &mut impl Read, buffer: &mut [u8]) -> io::Result<usize>
-    ensures { ReadsAtMost result buffer.new }
+pub fn read_full<R: Read>(input: &mut R, buffer: &mut [u8]) -> io::Result<usize>
+    ensures bound { ReadsAtMost result buffer.new }
+    ensures bytes { IfOk result (λ n. Consumes (R.remaining input.old) (R.remaining input.new) (take n buffer.new)) }
+    ensures none_lost { OnErr result (Keeps (R.remaining input.old) (R.remaining input.new)) }
 {
     let mut done = 0;
     while done < buffer.len() {
