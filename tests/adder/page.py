@@ -33,10 +33,12 @@ def planned(page):
     rows = {name: row[1:] for row in table(page, "instruction") for name in row[0].split(", ")}
     plans = {}
     an_operand = r"Operand::(A|B|Number\(\d+\))"
-    for line, kind, p, x, carry in re.findall(rf"0x(\w\w) => plan_with\(Kind::(\w+), {an_operand}, {an_operand}, ([\w.!]+),", text("crates/plan/src/lib.rt")):
+    a_plan = rf"([\w| ]+) => plan_with\(Kind::(\w+), {an_operand}, {an_operand}, ([\w.!]+),"
+    for lines, kind, p, x, carry in re.findall(a_plan, text("crates/plan/src/lib.rt")):
         p, x = (OPERANDS.get(operand, operand[len("Number("):-1]) for operand in (p, x))
         goes = {"Add": ["add", p, x, CARRIES[carry]], "Subtract": ["subtract", p, x, CARRIES[carry]], "Ones": ["subtract", "0", x, "0"]}
-        plans |= {names[4 * int(line, 16) + word]: goes[kind] for word in (0, 2) if kind in goes}
+        for line in re.findall(r"0x(\w\w)", lines):
+            plans |= {names[4 * int(line, 16) + word]: goes[kind] for word in (0, 2) if kind in goes}
     del plans["CAD"]
     yield from ((f"{name}: {rows.get(name)} and not {plan}", rows.get(name) == plan) for name, plan in plans.items())
     yield from ((f"{name}: not by the adder", name in plans) for code, name in names.items() if 0x80 <= code < 0xE0 and name in rows)

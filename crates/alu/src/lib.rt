@@ -9,7 +9,7 @@ use choose::bit_of;
 
 // What a byte cycle gives: the result, the carries out of positions 3 and 7, V, and what C becomes.
 #[repr(C)]
-#[derive(Clone, Copy)]
+#[derive(Clone, Copy, Debug, PartialEq, Eq)]
 pub struct Cycle {
     pub result: u8,
     pub c4: bool,
@@ -19,7 +19,7 @@ pub struct Cycle {
 }
 
 // Condition flags N Z V C and status flags NB ZB C4 C8, in the order of the flag byte.
-#[derive(Clone, Copy)]
+#[derive(Clone, Copy, Debug, Default, PartialEq, Eq)]
 pub struct Flags {
     pub n: bool,
     pub z: bool,
@@ -32,7 +32,7 @@ pub struct Flags {
 }
 
 // What a byte cycle does with its operands.
-#[derive(Clone, Copy)]
+#[derive(Clone, Copy, Debug, PartialEq, Eq)]
 pub enum Kind {
     Add,
     Subtract,
@@ -69,13 +69,7 @@ pub fn subtract(p: u8, q: u8, carry: bool) -> Cycle
     ensures { result ≡ subtract_of p q carry }
 {
     let y = add(p, 255 - q, carry);
-    Cycle {
-        result: y.result,
-        c4: y.c4,
-        c8: y.c8,
-        v: y.v,
-        c: !y.c8,
-    }
+    Cycle { c: !y.c8, ..y }
 }
 
 // A cycle without carries: C4, C8 and C stay as they were.
@@ -93,6 +87,7 @@ pub fn kept(res: u8, f: Flags) -> Cycle
 }
 
 // 0 less q and a borrow: the inverted operand alone, so that no net is high.
+#[tactic(auto, unfolding(crate::specs::Cycle::subtract_of, crate::specs::Cycle::ones_of), using(crate::proofs::Nets::alone))]
 fn ones(q: u8) -> Cycle
     ensures { result ≡ ones_of q }
 {
@@ -150,10 +145,7 @@ pub fn byte_cycle(kind: Kind, p: u8, q: u8, carry: bool, f: Flags) -> Cycle
 pub fn high_first(kind: Kind) -> bool
     ensures { result ≡ high_first_of kind }
 {
-    match kind {
-        Kind::Right => true,
-        _ => false,
-    }
+    matches!(kind, Kind::Right)
 }
 
 // The flags after a last cycle: the status always, the conditions where the code is odd.
@@ -162,27 +154,23 @@ pub fn after(f: Flags, last: Cycle, zero: bool, odd: bool) -> Flags
     ensures { result ≡ after_of f last zero odd }
 {
     let negative = 128 <= last.result;
-    if odd {
-        return Flags {
-            n: negative,
-            z: zero,
-            v: last.v,
-            c: last.c,
-            nb: negative,
-            zb: zero,
-            c4: last.c4,
-            c8: last.c8,
-        };
-    }
-    Flags {
-        n: f.n,
-        z: f.z,
-        v: f.v,
-        c: f.c,
+    let status = Flags {
         nb: negative,
         zb: zero,
         c4: last.c4,
         c8: last.c8,
+        ..f
+    };
+    if odd {
+        Flags {
+            n: negative,
+            z: zero,
+            v: last.v,
+            c: last.c,
+            ..status
+        }
+    } else {
+        status
     }
 }
 

@@ -17,42 +17,23 @@ impl fmt::Display for Named {
     }
 }
 
-fn clear() -> Flags {
-    Flags {
-        n: false,
-        z: false,
-        v: false,
-        c: false,
-        nb: false,
-        zb: false,
-        c4: false,
-        c8: false,
-    }
-}
-
 fn byte(rt: &impl Print, title: &str, kind: Kind, p: u8, q: u8, carry: bool) -> io::Result<()> {
-    let only = alu::byte_cycle(kind, p, q, carry, clear());
-    let flags = Named(alu::after_byte(clear(), only, true));
+    let only = alu::byte_cycle(kind, p, q, carry, Flags::default());
+    let flags = Named(alu::after_byte(Flags::default(), only, true));
     println!(rt; "{title}: {:02x} {flags}", only.result)
 }
 
 // Two cycles with C8 between them, in the order of the kind.
-fn word(
-    rt: &impl Print,
-    title: &str,
-    kind: Kind,
-    p: [u8; 2],
-    q: [u8; 2],
-    carry: bool,
-) -> io::Result<()> {
+fn word(rt: &impl Print, title: &str, kind: Kind, p: u16, q: u16, carry: bool) -> io::Result<()> {
+    let (p, q) = (p.to_le_bytes(), q.to_le_bytes());
     let (i, j) = if alu::high_first(kind) {
         (1, 0)
     } else {
         (0, 1)
     };
-    let first = alu::byte_cycle(kind, p[i], q[i], carry, clear());
-    let second = alu::byte_cycle(kind, p[j], q[j], first.c8, clear());
-    let flags = Named(alu::after_word(clear(), first, second, true));
+    let first = alu::byte_cycle(kind, p[i], q[i], carry, Flags::default());
+    let second = alu::byte_cycle(kind, p[j], q[j], first.c8, Flags::default());
+    let flags = Named(alu::after_word(Flags::default(), first, second, true));
     let mut result = [0; 2];
     result[i] = first.result;
     result[j] = second.result;
@@ -66,22 +47,8 @@ fn main(rt: HostRuntime) -> io::Result<()> {
     byte(&rt, "00-FF with C 1", Kind::Subtract, 0x00, 0xFF, false)?;
     byte(&rt, "Complement of 80", Kind::Subtract, 0x00, 0x80, true)?;
     byte(&rt, "Complement of 00", Kind::Subtract, 0x00, 0x00, true)?;
-    word(
-        &rt,
-        "Word 00FF+0001",
-        Kind::Add,
-        [0xFF, 0x00],
-        [0x01, 0x00],
-        false,
-    )?;
-    word(
-        &rt,
-        "Word 7FFF+0001",
-        Kind::Add,
-        [0xFF, 0x7F],
-        [0x01, 0x00],
-        false,
-    )?;
-    word(&rt, "SRW of 0101", Kind::Right, [0, 0], [0x01, 0x01], false)?;
+    word(&rt, "Word 00FF+0001", Kind::Add, 0x00FF, 0x0001, false)?;
+    word(&rt, "Word 7FFF+0001", Kind::Add, 0x7FFF, 0x0001, false)?;
+    word(&rt, "SRW of 0101", Kind::Right, 0, 0x0101, false)?;
     byte(&rt, "SLB of 40", Kind::Left, 0, 0x40, false)
 }

@@ -7,14 +7,15 @@ use mathlib.Core.List.{List}
 use native.Mathlib.Omega.{arith}
 use lib.Dec.{T, eqb, ltb}
 use lib.ListN.{length, get_or}
+use Rattle.std.specs.Prelude.{Ok, Err}
 use Rattle.choose.specs.Ranged.{pick, ranged}
 use Rattle.choose.proofs.Table.{below}
 use borrow.Author.Tests.{ltb-true}
 use Rattle.choose.proofs.Tests.{holds}
 use Rattle.code.specs.CodeRows.{class_of, cycles_of, listed, row_of}
 use Rattle.code.specs.Entries.{entries, row_of_entry}
-use Rattle.code.specs.Word.{top_of, code_in, code_of, same, operands_in, fields_in, apart_as, apart_of}
-use Rattle.code.specs.declared.Apart.{Apart}
+use Rattle.code.specs.Word.{Apart, top_of, code_in, code_of, same, operands_in, fields_in, apart_as, apart_of}
+use Rattle.code.specs.declared.Unread.{Unread}
 use Rattle.code.specs.declared.Class.{Class}
 use Rattle.code.specs.declared.CodeRow.{CodeRow}
 use Rattle.code.specs.declared.Fields.{Fields}
@@ -35,7 +36,7 @@ use Rattle.rows.specs.declared.Row.{Row}
 use Rattle.state.specs.File.{Leaves}
 use Rattle.state.specs.declared.Core.{Core}
 use Rattle.state.specs.declared.Sample.{Sample}
-use Rattle.attempt.specs.declared.Outcome.{Outcome}
+use Rattle.attempt.specs.Outcome.{Outcome}
 use Rattle.attempt.specs.Effect.{effect_of}
 use Rattle.attempt.specs.Attempt.{when_refused, when_idle, reset_of, modified_of}
 use Rattle.attempt.specs.Attempt.{executed_of, checked_of, taken_of, fetched_of, attempted_of, outputs_of, attempt_of}
@@ -86,8 +87,8 @@ module _ (w : ℕ) (o : Outputs) (xs : List ℕ) (k : Core) (s : Sample) where
       )
 
   taken_as : (t : Bool) (c : Class) → class_of (top_of w) ≡ c
-      → taken_by (pick t (pick (listed c) (Apart.Word (fields_in c w)) Apart.Unlisted) Apart.OutOfRange) (row_of (top_of w)) o xs k s
-      ≡ taken_of (pick t (pick (listed c) (Apart.Word (fields_in c w)) Apart.Unlisted) Apart.OutOfRange) o xs k s
+      → taken_by (pick t (pick (listed c) (Ok (fields_in c w)) (Err Unread.Unlisted)) (Err Unread.OutOfRange)) (row_of (top_of w)) o xs k s
+      ≡ taken_of (pick t (pick (listed c) (Ok (fields_in c w)) (Err Unread.Unlisted)) (Err Unread.OutOfRange)) o xs k s
   taken_as false c e = refl
   taken_as true Class.Unlisted e = refl
   taken_as true Class.Jump e = of-class Class.Jump e refl
@@ -143,9 +144,9 @@ module _ (xs : List ℕ) (k : Core) (s : Sample) where
       two-keeps (eqb (refusal_by row w.code b) 0) (waiting_by row w.code s) (refusal_by row w.code b) row w b a o h
 
   taken-keeps : (p : Apart) (row : CodeRow) (o : Outputs) → Keeps (taken_by p row o xs k s)
-  taken-keeps (Apart.Word w) row o h = kind-keeps w.operands row w o h
-  taken-keeps Apart.OutOfRange row o h = refl
-  taken-keeps Apart.Unlisted row o h = refl
+  taken-keeps (Ok w) row o h = kind-keeps w.operands row w o h
+  taken-keeps (Err Unread.OutOfRange) row o h = refl
+  taken-keeps (Err Unread.Unlisted) row o h = refl
 
   fetched-keeps : (t : Bool) (codes : List ℕ) (word : ℕ) (o : Outputs) → Keeps (pick t (word_by codes word o xs k s) (when_refused xs k 5))
   unfolding word_by

@@ -1,10 +1,10 @@
 -- One attempt. 01, "One attempt".
-use Rattle.std.specs.Prelude.{ℕ, ◌+◌, ◌*◌, ◌/◌, ◌%◌, false, List, eqb, ltb, length}
+use Rattle.std.specs.Prelude.{ℕ, ◌+◌, ◌*◌, ◌/◌, ◌%◌, false, List, eqb, ltb, length, Ok, Err}
 use Rattle.std.specs.Int.Bits.{bit_or}
 use Rattle.choose.specs.Ranged.{pick}
 use Rattle.code.specs.CodeRows.{cycles_of}
-use Rattle.code.specs.Word.{apart_of, number_of}
-use Rattle.code.specs.declared.Apart.{Apart}
+use Rattle.code.specs.Word.{Apart, apart_of, number_of}
+use Rattle.code.specs.declared.Unread.{Unread}
 use Rattle.code.specs.declared.Fields.{Fields}
 use Rattle.checks.specs.Checks.{word_refusal_of, waiting_of}
 use Rattle.control.specs.Bus.{placed, bus_with}
@@ -18,11 +18,8 @@ use Rattle.state.specs.File.{Leaves, leaves}
 use Rattle.state.specs.declared.Core.{Core}
 use Rattle.state.specs.declared.Latches.{Latches}
 use Rattle.state.specs.declared.Sample.{Sample}
-use Rattle.attempt.specs.declared.Outcome.{Outcome}
+use Rattle.attempt.specs.Outcome.{Outcome, outcome_of}
 use Rattle.attempt.specs.Effect.{effect_of}
-
-abbrev pub outcome_of : Core → ℕ → ℕ → ℕ → Outcome
-outcome_of k request cycles refusal = record { core = k; request = request; cycles = cycles; refusal = refusal }
 
 -- a refusal returns the state before the attempt; a wait, RESET and COMPUTE low cost 1 and leave a request of their kind
 abbrev pub when_refused : List ℕ → Core → ℕ → Leaves Outcome
@@ -75,9 +72,9 @@ modified_of w l = pick l.marked (w / 0x1_0000 * 0x1_0000 + bit_or (w % 0x1_0000)
 
 -- 5, "LC has no word"; then 6, "code unlisted". A word of 2^22 or more is 2, which a run refuses before its first attempt
 abbrev pub taken_of : Apart → Outputs → List ℕ → Core → Sample → Leaves Outcome
-taken_of (Apart.Word w) o xs k sample = checked_of xs k w sample o
-taken_of Apart.OutOfRange o xs k sample = when_refused xs k (number_of Apart.OutOfRange)
-taken_of Apart.Unlisted o xs k sample = when_refused xs k (number_of Apart.Unlisted)
+taken_of (Ok w) o xs k sample = checked_of xs k w sample o
+taken_of (Err Unread.OutOfRange) o xs k sample = when_refused xs k (number_of (Err Unread.OutOfRange))
+taken_of (Err Unread.Unlisted) o xs k sample = when_refused xs k (number_of (Err Unread.Unlisted))
 
 unfoldable pub fetched_of : List ℕ → Outputs → List ℕ → Core → Sample → Leaves Outcome
 fetched_of ws o xs k sample =

@@ -12,6 +12,10 @@ use Rattle.state.specs.declared.Core.{Core}
 use Rattle.state.specs.declared.Sample.{Sample}
 use Rattle.attempt.specs.declared.Effect.{Effect}
 
+-- "execution .. uses the modification up", and all else stays
+abbrev pub used_up : Core → Effect
+used_up core = record { flags = core.flags; bus = core.bus; latches = used core.latches; way = Way.Onward; request = 0 }
+
 -- JMP, RFS and the conditional jumps leave registers, flags and bus; "execution .. uses the modification up"
 unfoldable pub jumped_of : Core → ℕ → ℕ → Effect
 jumped_of core code n =

@@ -1,10 +1,10 @@
 -- One attempt by what is handed to it, whatever that is: numbers for the 256 top bytes, and what the rows put out. This is the code's way only;
 -- `attempt-lent` says that by THE table and by the outputs of rows in range it is the attempt of 01.
-use Rattle.std.specs.Prelude.{ℕ, ◌/◌, ◌%◌, List, eqb, ltb, length, get_or}
+use Rattle.std.specs.Prelude.{ℕ, ◌/◌, ◌%◌, List, eqb, ltb, length, get_or, Ok, Err}
 use Rattle.choose.specs.Ranged.{pick}
 use Rattle.code.specs.Entries.{row_of_entry}
-use Rattle.code.specs.Word.{top_of, apart_as, number_of}
-use Rattle.code.specs.declared.Apart.{Apart}
+use Rattle.code.specs.Word.{Apart, top_of, apart_as, number_of}
+use Rattle.code.specs.declared.Unread.{Unread}
 use Rattle.code.specs.declared.CodeRow.{CodeRow}
 use Rattle.code.specs.declared.Fields.{Fields}
 use Rattle.code.specs.declared.Operands.{Operands}
@@ -17,9 +17,9 @@ use Rattle.state.specs.File.{Leaves, leaves}
 use Rattle.state.specs.declared.Core.{Core}
 use Rattle.state.specs.declared.Sample.{Sample}
 use Rattle.attempt.specs.declared.Effect.{Effect}
-use Rattle.attempt.specs.declared.Outcome.{Outcome}
+use Rattle.attempt.specs.Outcome.{Outcome, outcome_of}
 use Rattle.attempt.specs.Effect.{jumped_of, literal_effect, register_effect}
-use Rattle.attempt.specs.Attempt.{outcome_of, when_refused, when_idle, reset_of, modified_of}
+use Rattle.attempt.specs.Attempt.{when_refused, when_idle, reset_of, modified_of}
 
 -- an executed word: its effect, the next address, its user bits, and the cycles of its row
 unfoldable pub done_by : CodeRow → Core → Fields → Effect → Outputs → Outcome
@@ -60,9 +60,9 @@ abbrev pub checked_by : CodeRow → List ℕ → Core → Fields → Sample → 
 checked_by row xs k w sample o = checked_kind w.operands row xs k w sample o
 
 abbrev pub taken_by : Apart → CodeRow → Outputs → List ℕ → Core → Sample → Leaves Outcome
-taken_by (Apart.Word w) row o xs k sample = checked_by row xs k w sample o
-taken_by Apart.OutOfRange row o xs k sample = when_refused xs k (number_of Apart.OutOfRange)
-taken_by Apart.Unlisted row o xs k sample = when_refused xs k (number_of Apart.Unlisted)
+taken_by (Ok w) row o xs k sample = checked_by row xs k w sample o
+taken_by (Err Unread.OutOfRange) row o xs k sample = when_refused xs k (number_of (Err Unread.OutOfRange))
+taken_by (Err Unread.Unlisted) row o xs k sample = when_refused xs k (number_of (Err Unread.Unlisted))
 
 -- the number of the word's top byte in the table is read as a row
 unfoldable pub word_by : List ℕ → ℕ → Outputs → List ℕ → Core → Sample → Leaves Outcome

@@ -1,3 +1,4 @@
+pub mod Outcome
 pub mod Effect
 pub mod Attempt
 pub mod Lent

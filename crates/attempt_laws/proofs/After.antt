@@ -10,7 +10,7 @@ use lib.ListN.{length}
 use borrow.Author.Tests.{ltb-false, ne_eqb}
 use Rattle.attempt.specs.Attempt.{executed_of, outputs_of, attempt_of}
 use Rattle.attempt.specs.Effect.{jumped_of, literal_effect, register_effect, effect_of}
-use Rattle.attempt.specs.declared.Outcome.{Outcome}
+use Rattle.attempt.specs.Outcome.{Outcome}
 use Rattle.choose.proofs.Table.{below}
 use Rattle.choose.specs.Ranged.{pick, ranged}
 use Rattle.code.proofs.Words.{apart-is}

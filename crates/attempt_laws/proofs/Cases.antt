@@ -5,8 +5,9 @@ use mathlib.Core.Path.{◌≡◌, refl}
 use mathlib.Core.List.{List}
 use lib.Dec.{eqb, ltb}
 use lib.ListN.{length}
-use Rattle.code.specs.Word.{apart_of, WellFormed}
-use Rattle.code.specs.declared.Apart.{Apart}
+use Rattle.std.specs.Prelude.{Ok, Err}
+use Rattle.code.specs.Word.{Apart, apart_of, WellFormed}
+use Rattle.code.specs.declared.Unread.{Unread}
 use Rattle.code.specs.declared.Fields.{Fields}
 use Rattle.code.proofs.Laws.{apart-well-formed}
 use Rattle.checks.specs.Checks.{word_refusal_of, waiting_of}
@@ -19,7 +20,7 @@ use Rattle.attempt.specs.Attempt.{taken_of, fetched_of, attempted_of, outputs_of
 use Rattle.choose.proofs.Choice.{pick_all}
 use Rattle.numbers.specs.Numbers.{word_at}
 use Rattle.state.specs.File.{Leaves}
-use Rattle.attempt.specs.declared.Outcome.{Outcome}
+use Rattle.attempt.specs.Outcome.{Outcome}
 
 -- P of each case, with the rows' outputs o
 pub record Cases (P : Leaves Outcome → Type 0) (xs : List ℕ) (k : Core) (s : Sample) (o : Outputs) : Type 0 where
@@ -38,9 +39,9 @@ module _ (P : Leaves Outcome → Type 0) (xs : List ℕ) (k : Core) (s : Sample)
       (c.refuses (word_refusal_of w.code w.operands))
 
   taken-all : (word : ℕ) (x : Apart) → apart_of word ≡ x → P (taken_of x o xs k s)
-  taken-all word (Apart.Word w) e = checked-all w (apart-well-formed word w e)
-  taken-all word Apart.OutOfRange e = c.refuses 2
-  taken-all word Apart.Unlisted e = c.refuses 6
+  taken-all word (Ok w) e = checked-all w (apart-well-formed word w e)
+  taken-all word (Err Unread.OutOfRange) e = c.refuses 2
+  taken-all word (Err Unread.Unlisted) e = c.refuses 6
 
   fetched-all : (ws : List ℕ) → P (fetched_of ws o xs k s)
   unfolding fetched_of

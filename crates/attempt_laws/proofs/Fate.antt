@@ -2,23 +2,24 @@
 -- Assumes nothing.
 use Prim.Native.Nat.{ℕ, ◌/◌, ◌<◌}
 use mathlib.Core.Path.{◌≡◌, refl, ◌∙◌, sym}
-use mathlib.Core.Bool.{Bool, true, false, not, ◌||◌, beq, false≢true}
-use mathlib.Core.List.{List, [], ◌∷◌}
+use mathlib.Core.Bool.{Bool, true, false, beq, false≢true}
+use mathlib.Core.List.{List}
 use native.Mathlib.Omega.{arith}
 use lib.Dec.{eqb, eqb→eq, ltb}
 use lib.ListN.{length}
 use borrow.Author.Tests.{lt-ltb, ltb-true, eqb-false, ne_eqb}
+use Rattle.std.specs.Prelude.{Ok, Err}
 use Rattle.choose.specs.Ranged.{pick, ranged}
 use Rattle.choose.specs.Below.{all_below}
 use Rattle.choose.proofs.Table.{below}
 use Rattle.code.specs.CodeRows.{class_of, listed, waits_of, options_of}
-use Rattle.code.specs.Word.{top_of, code_of, code_in, operands_in, fields_in, apart_of}
-use Rattle.code.specs.declared.Apart.{Apart}
+use Rattle.code.specs.Word.{Apart, top_of, code_of, code_in, operands_in, fields_in, apart_of}
+use Rattle.code.specs.declared.Unread.{Unread}
 use Rattle.code.specs.declared.Class.{Class}
 use Rattle.code.specs.declared.Fields.{Fields}
 use Rattle.code.proofs.Words.{is-apart}
 use Rattle.code.proofs.Laws.{apart-well-formed}
-use Rattle.checks.specs.Checks.{designator_refusal_of, word_refusal_of, waiting_of}
+use Rattle.checks.specs.Checks.{designator_refusal_of, word_refusal_of, held_by, waiting_of}
 use Rattle.rows.specs.declared.Outputs.{Outputs}
 use Rattle.rows.specs.declared.Row.{Row}
 use Rattle.state.specs.Range.{InRange, SampleInRange}
@@ -31,7 +32,7 @@ use Rattle.choose.proofs.Choice.{pick-both}
 use Rattle.choose.proofs.Tests.{equal-tests}
 use Rattle.attempt_laws.proofs.Range.{executed-request}
 use Rattle.state.specs.File.{Leaves}
-use Rattle.attempt.specs.declared.Outcome.{Outcome}
+use Rattle.attempt.specs.Outcome.{Outcome}
 
 -- ---- the engine's tables against 01's lists: two tests over the 256 codes, which the checker computes
 
@@ -62,13 +63,10 @@ waits-equal : (code : ℕ) → code < 256 → (s : Sample) → waiting_of (code_
 unfolding waiting_of waits_of code_of class_of ranged must_wait
 waits-equal code h s = go s.reply s.busy
   where
-    waits : ℕ → Bool → Bool → Bool
-    waits code reply busy = ranged (waits_of (code_of code)) ((1, false) ∷ (2, reply || busy) ∷ []) (not reply)
-
     test : Bool → Bool → ℕ → Bool
-    test reply busy code = beq (waits code reply busy) (must_wait code reply busy)
+    test reply busy code = beq (held_by (waits_of (code_of code)) reply busy) (must_wait code reply busy)
 
-    go : (reply busy : Bool) → waits code reply busy ≡ must_wait code reply busy
+    go : (reply busy : Bool) → held_by (waits_of (code_of code)) reply busy ≡ must_wait code reply busy
     go true true = equal-tests _ _ (below 256 (test true true) tt code h)
     go true false = equal-tests _ _ (below 256 (test true false) tt code h)
     go false true = equal-tests _ _ (below 256 (test false true) tt code h)
@@ -108,7 +106,7 @@ pick_known P true a b x y p q = p refl
 pick_known P false a b x y p q = q refl
 
 module _ (xs : List ℕ) (k : Core) (s : Sample) (o : Outputs) where
-  checked-ends : (word n : ℕ) (t : Bool) (w : Fields) → apart_of word ≡ Apart.Word w → word_refusal_of w.code w.operands ≡ n → waiting_of w.code s ≡ t
+  checked-ends : (word n : ℕ) (t : Bool) (w : Fields) → apart_of word ≡ Ok w → word_refusal_of w.code w.operands ≡ n → waiting_of w.code s ≡ t
       → EndsAs word xs k s o (checked_of xs k w s o) (pick (eqb n 0) (pick t waited completed) (refused n))
   unfolding checked_of
   checked-ends word n t w e p q =
@@ -120,7 +118,7 @@ module _ (xs : List ℕ) (k : Core) (s : Sample) (o : Outputs) where
   -- a word below 2^22
   word-ends : (word : ℕ) → word < 0x40_0000 → (l : Bool) → listed (class_of (top_of word)) ≡ l
       → (n : ℕ) → number_by_tables (class_of (top_of word)) (top_of word) (b_in word) ≡ n
-      → EndsAs word xs k s o (taken_of (pick l (Apart.Word (fields_in (class_of (top_of word)) word)) Apart.Unlisted) o xs k s)
+      → EndsAs word xs k s o (taken_of (pick l (Ok (fields_in (class_of (top_of word)) word)) (Err Unread.Unlisted)) o xs k s)
       (pick (eqb n 0) (pick (must_wait (top_of word) s.reply s.busy) waited completed) (refused n))
   unfolding fields_in code_of
   word-ends word h true l n e =

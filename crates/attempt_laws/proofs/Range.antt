@@ -35,7 +35,7 @@ use Rattle.attempt_laws.proofs.Control.{used-in-range, latches-in-range, way-in-
 use Rattle.attempt_laws.proofs.Cases.{attempt-all}
 use Rattle.code.specs.Word.{Fit, jump, conditional, literal, register, WellFormed}
 use Rattle.attempt.specs.declared.Effect.{Effect}
-use Rattle.attempt.specs.declared.Outcome.{Outcome}
+use Rattle.attempt.specs.Outcome.{Outcome}
 
 -- ---- the state by its parts
 

@@ -11,7 +11,7 @@ use Rattle.state.specs.declared.Sample.{Sample}
 use Rattle.attempt.specs.Attempt.{executed_of, attempt_of}
 use Rattle.attempt_laws.proofs.Cases.{attempt-all}
 use Rattle.state.specs.File.{Leaves}
-use Rattle.attempt.specs.declared.Outcome.{Outcome}
+use Rattle.attempt.specs.Outcome.{Outcome}
 
 -- an executed word is not refused
 pub executes : (xs : List ℕ) (k : Core) (w : Fields) (s : Sample) (o : Outputs) → (executed_of xs k w s o).back.refusal ≡ 0

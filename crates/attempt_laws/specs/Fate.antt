@@ -1,9 +1,8 @@
 -- What an attempt is: "a refusal, a wait, a RESET or a COMPUTE-low one exactly when 01 says so, and every other attempt completes its
 -- microinstruction". The conditions are 01's own lists, of the word's bits: they use none of the engine's tables.
-use Rattle.std.specs.Prelude.{ℕ, ◌*◌, ◌/◌, ◌%◌, ◌^◌, ◌≡◌, Bool, false, not, ◌&&◌, ◌||◌, List, [], ◌∷◌, eqb, leb, ltb, length}
+use Rattle.std.specs.Prelude.{ℕ, ◌*◌, ◌/◌, ◌%◌, ◌^◌, ◌≡◌, Bool, false, not, ◌&&◌, ◌||◌, List, [], ◌∷◌, eqb, leb, ltb, length, Ok}
 use Rattle.choose.specs.Ranged.{pick, ranged}
 use Rattle.code.specs.Word.{apart_of}
-use Rattle.code.specs.declared.Apart.{Apart}
 use Rattle.code.specs.declared.Fields.{Fields}
 use Rattle.rows.specs.declared.Outputs.{Outputs}
 use Rattle.state.specs.declared.Core.{Core}
@@ -11,7 +10,7 @@ use Rattle.state.specs.declared.Sample.{Sample}
 use Rattle.attempt.specs.Attempt.{executed_of, modified_of}
 use Rattle.numbers.specs.Numbers.{word_at}
 use Rattle.state.specs.File.{Leaves}
-use Rattle.attempt.specs.declared.Outcome.{Outcome}
+use Rattle.attempt.specs.Outcome.{Outcome}
 
 pub data Fate : Type 0 where
   refused : ℕ → Fate
@@ -136,7 +135,7 @@ EndsAs word xs k s o e (refused n) = (n ≡ 0 → ⊥) × (e ≡ ends xs k 0 0 n
 EndsAs word xs k s o e waited = e ≡ ends xs k (10 * 65536) 1 0
 EndsAs word xs k s o e reset = e ≡ ends xs (after_reset k) (11 * 65536) 1 0
 EndsAs word xs k s o e compute-low = e ≡ ends xs k (12 * 65536) 1 0
-EndsAs word xs k s o e completed = (w : Fields) × (apart_of word ≡ Apart.Word w) × (e ≡ executed_of xs k w s o)
+EndsAs word xs k s o e completed = (w : Fields) × (apart_of word ≡ Ok w) × (e ≡ executed_of xs k w s o)
 
 -- the fate that a caller sees, from the refusal's number and the request's kind: a completed attempt has refusal 0 and a kind from 0 to 9
 unfoldable pub seen : Leaves Outcome → Fate

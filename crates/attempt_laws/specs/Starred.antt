@@ -3,7 +3,7 @@ use Rattle.std.specs.Prelude.{ℕ, ◌+◌, ◌/◌, ◌%◌, Bool, true, false,
 use Rattle.std.specs.Bool.{beq}
 use Rattle.alu.specs.declared.Flags.{Flags}
 use Rattle.attempt.specs.Attempt.{attempt_of}
-use Rattle.attempt.specs.declared.Outcome.{Outcome}
+use Rattle.attempt.specs.Outcome.{Outcome}
 use Rattle.state.specs.File.{Leaves}
 use Rattle.state.specs.Registers.{Register, R, G}
 use Rattle.state.specs.declared.Core.{Core}

@@ -8,7 +8,7 @@ use lib.Dec.{eqb, leb}
 use lib.ListN.{length, set, length-set}
 use borrow.Author.Tests.{eq-eqb, ne_eqb, eqb-true, leb-true}
 use Rattle.choose.specs.Ranged.{pick, ranged}
-use Rattle.bus_memory.specs.Memory.{kept_of, kind_in, value_in, accesses, even_of}
+use Rattle.bus_memory.specs.Memory.{kept_of, kept_address, kind_in, value_in, accesses, even_of}
 use Rattle.bus_memory.specs.Memory.{output_byte, stored_in, transfer_waits, waits_after, kept_after, memory_refusal_of}
 use Rattle.bus_memory.specs.declared.Kept.{Kept}
 
@@ -21,16 +21,16 @@ upper request = omega arith
 
 module _ (bytes : List ℕ) (k : Kept) (request : ℕ) where
   pub word_out : kind_in request ≡ 6
-      → set (set bytes (even_of k.address) (request % 0x100)) (even_of k.address + 1) (request / 0x100 % 0x100) ≡ stored_in bytes k request
+      → set (set bytes (even_of (kept_address k)) (request % 0x100)) (even_of (kept_address k) + 1) (request / 0x100 % 0x100) ≡ stored_in bytes k request
   unfolding stored_in
   word_out six = rw (eq-eqb _ _ six, lower request, upper request)
 
   module _ (not-six : kind_in request ≡ 6 → ⊥) where
-    pub even-out : kind_in request ≡ 7 → k.address % 2 ≡ 0 → set bytes k.address (request % 0x100) ≡ stored_in bytes k request
+    pub even-out : kind_in request ≡ 7 → kept_address k % 2 ≡ 0 → set bytes (kept_address k) (request % 0x100) ≡ stored_in bytes k request
     unfolding stored_in
     even-out seven even = rw (ne_eqb _ _ not-six, eq-eqb _ _ seven, eq-eqb _ _ even, lower request)
 
-    pub odd-out : kind_in request ≡ 7 → (k.address % 2 ≡ 0 → ⊥) → set bytes k.address (request / 0x100 % 0x100) ≡ stored_in bytes k request
+    pub odd-out : kind_in request ≡ 7 → (kept_address k % 2 ≡ 0 → ⊥) → set bytes (kept_address k) (request / 0x100 % 0x100) ≡ stored_in bytes k request
     unfolding stored_in
     odd-out seven odd = rw (ne_eqb _ _ not-six, eq-eqb _ _ seven, ne_eqb _ _ odd, upper request)
 
@@ -43,8 +43,8 @@ unfolding stored_in
 stored-length bytes k request = by_kind (eqb (kind_in request) 6) (eqb (kind_in request) 7)
   where
     by_kind : (a b : Bool) → length
-        (pick a (set (set bytes (even_of k.address) (value_in request % 0x100)) (even_of k.address + 1) (value_in request / 0x100))
-        (pick b (set bytes k.address (output_byte k.address (value_in request))) bytes))
+        (pick a (set (set bytes (even_of (kept_address k)) (value_in request % 0x100)) (even_of (kept_address k) + 1) (value_in request / 0x100))
+        (pick b (set bytes (kept_address k) (output_byte (kept_address k) (value_in request))) bytes))
         ≡ length bytes
     by_kind true b = simp length-set
     by_kind false true = simp length-set
@@ -71,6 +71,6 @@ rests delay k transfer request h =
     let two = (and-eq-true_iff (eqb request 0) (eqb k.low 0)).0 all.0 in
     let low = eqb-true k.low 0 two.1 in
     let waits = eqb-true k.waits 0 all.1 in
-    let quiet : kept_of k.accessed k.address k.low k.waits ≡ kept_of k.accessed k.address (k.low - 1) 0 =
-    ap (kept_of k.accessed k.address k.low) waits ∙ ap (λ (n : ℕ). kept_of k.accessed k.address n 0) (omega (arith, low)) in
+    let quiet : kept_of k.access k.low k.waits ≡ kept_of k.access (k.low - 1) 0 =
+    ap (kept_of k.access k.low) waits ∙ ap (λ (n : ℕ). kept_of k.access n 0) (omega (arith, low)) in
     rw (eqb-true request 0 two.0) quiet

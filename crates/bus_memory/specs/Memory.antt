@@ -1,5 +1,6 @@
 -- A memory on the bus: the lines that an attempt sees, what its request does to the bytes, and what the memory keeps. 02, L7.
 use Rattle.std.specs.Prelude.{ℕ, ◌+◌, ◌-◌, ◌*◌, ◌/◌, ◌%◌, min, Bool, true, false, ◌&&◌, List, [], ◌∷◌, eqb, ltb, leb, length, set}
+use Rattle.std.specs.Prelude.{Option, Some, None, is_some, unwrap_or}
 use Rattle.choose.specs.Ranged.{pick, ranged}
 use Rattle.numbers.specs.Numbers.{pair_at}
 use Rattle.state.specs.declared.Sample.{Sample}
@@ -7,11 +8,18 @@ use Rattle.bus_memory.specs.declared.Kept.{Kept}
 
 -- "It keeps the address of the last read or write accepted": none yet, or the address; how many attempts are still to see REPLY low; and how many waits of
 -- IB, IW, OB and OW have come in a row, counted up to the 32 that 17 asks for
-abbrev pub kept_of : Bool → ℕ → ℕ → ℕ → Kept
-kept_of accessed address low waits = record { accessed = accessed; address = address; low = low; waits = waits }
+abbrev pub kept_of : Option ℕ → ℕ → ℕ → Kept
+kept_of access low waits = record { access = access; low = low; waits = waits }
+
+-- whether there was one, and its address, which is 0 before the first
+abbrev pub accessed : Kept → Bool
+accessed k = is_some k.access
+
+abbrev pub kept_address : Kept → ℕ
+kept_address k = unwrap_or k.access 0
 
 abbrev pub nothing_kept : Kept
-nothing_kept = kept_of false 0 0 0
+nothing_kept = kept_of None 0 0
 
 -- a request's kind and its value
 abbrev pub kind_in : ℕ → ℕ
@@ -40,7 +48,7 @@ word_in bytes address = pair_at bytes (even_of address)
 
 -- "REPLY falls when SYNC falls; it is low before the first access and beyond the memory", and "so many attempts after an accepted read or write see REPLY low"
 unfoldable pub reply_of : Kept → ℕ → Bool → Bool
-reply_of k size sync = sync && k.accessed && eqb k.low 0 && ltb k.address size
+reply_of k size sync = sync && accessed k && eqb k.low 0 && ltb (kept_address k) size
 
 -- IB and IW see the word at the kept address, "status inputs read the external data". While REPLY is low all see the external data, which none takes: IB and IW
 -- wait then
@@ -64,7 +72,7 @@ lines_with s reply dal =
 unfoldable pub seen_of : List ℕ → Kept → Bool → ℕ → Sample → Sample
 seen_of bytes k sync code s =
     let reply = reply_of k (length bytes) sync in
-    lines_with s reply (data_of bytes k.address reply code s.dal)
+    lines_with s reply (data_of bytes (kept_address k) reply code s.dal)
 
 -- "A byte output stores the lower lines at an even address and the upper at an odd one"
 abbrev pub output_byte : ℕ → ℕ → ℕ
@@ -75,8 +83,8 @@ unfoldable pub stored_in : List ℕ → Kept → ℕ → List ℕ
 stored_in bytes k request =
     let value = value_in request in
     pick (eqb (kind_in request) 6)
-    (set (set bytes (even_of k.address) (value % 0x100)) (even_of k.address + 1) (value / 0x100))
-    (pick (eqb (kind_in request) 7) (set bytes k.address (output_byte k.address value)) bytes)
+    (set (set bytes (even_of (kept_address k)) (value % 0x100)) (even_of (kept_address k) + 1) (value / 0x100))
+    (pick (eqb (kind_in request) 7) (set bytes (kept_address k) (output_byte (kept_address k) value)) bytes)
 
 -- a wait (10), by a code that transfers
 unfoldable pub transfer_waits : Bool → ℕ → Bool
@@ -89,12 +97,12 @@ waits_after waits transfer request = pick (transfer_waits transfer request) (min
 unfoldable pub kept_after : ℕ → Kept → Bool → ℕ → Kept
 kept_after delay k transfer request =
     pick (accesses request)
-    (kept_of true (value_in request) delay 0)
-    (kept_of k.accessed k.address (k.low - 1) (waits_after k.waits transfer request))
+    (kept_of (Some (value_in request)) delay 0)
+    (kept_of k.access (k.low - 1) (waits_after k.waits transfer request))
 
 -- "17 in place of a 33rd IB, IW, OB or OW wait in a row, the kept address beyond the memory"
 unfoldable pub stuck_of : ℕ → Kept → Bool → ℕ → Bool
-stuck_of size k transfer request = transfer_waits transfer request && leb 32 k.waits && k.accessed && leb size k.address
+stuck_of size k transfer request = transfer_waits transfer request && leb 32 k.waits && accessed k && leb size (kept_address k)
 
 -- "16 memory length odd or over the limit, or delay over 15"
 unfoldable pub memory_refusal_of : ℕ → ℕ → ℕ

@@ -2,16 +2,17 @@
 #![tactic(auto)]
 
 ghost use Rattle.std.specs.Prelude.{◌≡◌, ◌+◌, ◌-◌, min, true, false, set};
-ghost use Rattle.bus_memory.specs.Memory.{nothing_kept, accesses, takes_in, transfers, word_in, reply_of, data_of, lines_with, stored_in, transfer_waits, waits_after, kept_after, stuck_of, memory_refusal_of};
+ghost use Rattle.refusals.specs.Refusals.{answer_of};
+ghost use Rattle.bus_memory.specs.Memory.{nothing_kept, kept_address, accesses, takes_in, transfers, word_in, reply_of, data_of, lines_with, stored_in, transfer_waits, waits_after, kept_after, stuck_of, memory_refusal_of};
 
+use refusals::Refusal;
 use state::Sample;
 
 // The address of the last read or write that was accepted, if there was one, how many attempts are still to see REPLY low, and
 // how many waits of IB, IW, OB and OW have come in a row, up to 32.
 #[derive(Clone, Copy)]
 pub struct Kept {
-    pub accessed: bool,
-    pub address: u16,
+    pub access: Option<u16>,
     pub low: u8,
     pub waits: u8,
 }
@@ -21,22 +22,21 @@ pub fn nothing() -> Kept
     ensures { result ≡ nothing_kept }
 {
     Kept {
-        accessed: false,
-        address: 0,
+        access: None,
         low: 0,
         waits: 0,
     }
 }
 
-// 0, or 16.
+// 16 or none.
 #[tactic(auto, unfolding(crate::specs::Memory::memory_refusal_of))]
-pub fn refusal(size: usize, delay: u32) -> u8
-    ensures { result ≡ memory_refusal_of size delay }
+pub fn refusal(size: usize, delay: u32) -> Option<Refusal>
+    ensures { answer_of result ≡ memory_refusal_of size delay }
 {
     if (size % 2 == 0) & (size <= 65536) & (delay <= 15) {
-        return 0;
+        return None;
     }
-    16
+    Some(Refusal::Memory)
 }
 
 // Requests 1-4 are reads and writes.
@@ -44,12 +44,7 @@ pub fn refusal(size: usize, delay: u32) -> u8
 fn accesses(request: u32) -> bool
     ensures { result ≡ accesses request }
 {
-    let kind = request / 0x1_0000;
-    match kind {
-        0 => false,
-        1..=4 => true,
-        _ => false,
-    }
+    matches!(request / 0x1_0000, 1..=4)
 }
 
 // IB and IW.
@@ -57,11 +52,7 @@ fn accesses(request: u32) -> bool
 fn takes_in(code: u8) -> bool
     ensures { result ≡ takes_in code }
 {
-    match code {
-        0x00..=0xDF => false,
-        0xE0..=0xE3 => true,
-        _ => false,
-    }
+    matches!(code, 0xE0..=0xE3)
 }
 
 // IB, IW, OB and OW.
@@ -69,13 +60,7 @@ fn takes_in(code: u8) -> bool
 pub fn transfers(code: u8) -> bool
     ensures { result ≡ transfers code }
 {
-    match code {
-        0x00..=0xDF => false,
-        0xE0..=0xE3 => true,
-        0xE4..=0xFB => false,
-        0xFC..=0xFD => true,
-        _ => false,
-    }
+    matches!(code, 0xE0..=0xE3 | 0xFC..=0xFD)
 }
 
 // The word at an address, whose lowest bit is ignored.
@@ -85,12 +70,19 @@ fn word(memory: &[u8], address: u16) -> u16
     numbers::pair_at(memory, address as usize / 2 * 2)
 }
 
+// 0 before the first access.
+fn address_in(kept: Kept) -> u16
+    ensures { result ≡ kept_address kept }
+{
+    kept.access.unwrap_or(0)
+}
+
 // REPLY of the next attempt, with SYNC as it is before it.
 #[tactic(auto, unfolding(crate::specs::Memory::reply_of))]
 pub fn replies(kept: Kept, size: usize, sync: bool) -> bool
     ensures { result ≡ reply_of kept size sync }
 {
-    sync & kept.accessed & (kept.low == 0) & ((kept.address as usize) < size)
+    sync & (kept.low == 0) & matches!(kept.access, Some(address) if (address as usize) < size)
 }
 
 // The data that the code at LC sees where the memory replies: IB and IW its word, all others the external ones.
@@ -110,19 +102,15 @@ fn lines_with(external: Sample, reply: bool, dal: u16) -> Sample
     Sample {
         reply,
         dal,
-        busy: external.busy,
-        compute: external.compute,
-        reset: external.reset,
-        ics: external.ics,
-        interrupts: external.interrupts,
+        ..external
     }
 }
 
 // The lines that the next attempt sees in the place of the external ones where the memory replies, with the code at LC.
 pub fn answered(memory: &[u8], kept: Kept, code: u8, external: Sample) -> Sample
-    ensures { result ≡ lines_with external true (data_of memory.now kept.address true code external.dal) }
+    ensures { result ≡ lines_with external true (data_of memory.now (kept_address kept) true code external.dal) }
 {
-    let dal = data(memory, kept.address, code, external.dal);
+    let dal = data(memory, address_in(kept), code, external.dal);
     lines_with(external, true, dal)
 }
 
@@ -133,7 +121,7 @@ pub fn silent(external: Sample) -> Sample
     lines_with(external, false, external.dal)
 }
 
-// Beyond the memory nothing is put.
+// Beyond the memory nothing is put. By its index: of a slice's `get_mut` only the length is promised.
 fn put(memory: &mut [u8], at: usize, byte: u8)
     ensures { memory.new ≡ set memory.old at byte }
 {
@@ -147,7 +135,7 @@ fn put(memory: &mut [u8], at: usize, byte: u8)
 pub fn store(memory: &mut [u8], kept: Kept, request: u32)
     ensures { memory.new ≡ stored_in memory.old kept request }
 {
-    let at = kept.address as usize;
+    let at = address_in(kept) as usize;
     let low = (request % 0x100) as u8;
     let high = (request / 0x100 % 0x100) as u8;
     let kind = request / 0x1_0000;
@@ -171,29 +159,13 @@ fn transfer_waits(transfer: bool, request: u32) -> bool
     (request / 0x1_0000 == 10) & transfer
 }
 
-fn one_less(low: u8) -> u8
-    ensures { result ≡ low - 1 }
-{
-    if low == 0 {
-        return 0;
-    }
-    low - 1
-}
-
-// Counted up to the 32 that a 17 asks for.
-fn one_more(waits: u8) -> u8
-    ensures { result ≡ min (waits + 1) 32 }
-{
-    if waits < 32 { waits + 1 } else { 32 }
-}
-
-// The waits in a row, with this attempt.
+// The waits in a row, with this attempt, counted up to the 32 that a 17 asks for.
 #[tactic(auto, unfolding(crate::specs::Memory::waits_after))]
 fn waits_after(waits: u8, transfer: bool, request: u32) -> u8
     ensures { result ≡ waits_after waits transfer request }
 {
     if transfer_waits(transfer, request) {
-        return one_more(waits);
+        return waits.min(31) + 1;
     }
     0
 }
@@ -209,16 +181,14 @@ pub fn after(delay: u8, kept: Kept, transfer: bool, request: u32) -> Kept
     }
     if accesses(request) {
         return Kept {
-            accessed: true,
-            address: (request % 0x1_0000) as u16,
+            access: Some((request % 0x1_0000) as u16),
             low: delay,
             waits: 0,
         };
     }
     Kept {
-        accessed: kept.accessed,
-        address: kept.address,
-        low: one_less(kept.low),
+        access: kept.access,
+        low: kept.low.saturating_sub(1),
         waits: waits_after(kept.waits, transfer, request),
     }
 }
@@ -230,6 +200,5 @@ pub fn stuck(size: usize, kept: Kept, transfer: bool, request: u32) -> bool
 {
     transfer_waits(transfer, request)
         & (32 <= kept.waits)
-        & kept.accessed
-        & (size <= kept.address as usize)
+        & matches!(kept.access, Some(address) if size <= address as usize)
 }

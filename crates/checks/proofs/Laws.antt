@@ -9,7 +9,7 @@ use Rattle.choose.proofs.Ranged.{in-arm, in_rest}
 use Rattle.code.specs.CodeRows.{class_of, listed, row_of, waits_of}
 use Rattle.code.proofs.Digits.{listed-row}
 use Rattle.state.specs.declared.Sample.{Sample}
-use Rattle.checks.specs.Asked.{refusal_by, waits_by, waiting_by}
+use Rattle.checks.specs.Asked.{refusal_by, waiting_by}
 use Rattle.checks.specs.Checks.{designator_refusal_of, waiting_of}
 
 pub refusal-by-row : (code b : ℕ) → listed (class_of code) ≡ true → refusal_by (row_of code) code b ≡ designator_refusal_of code b
@@ -19,10 +19,10 @@ refusal-by-row code b e = rw (listed-row code e)
 -- jumps, literals and operations never wait
 pub no-waiting : (code : ℕ) (s : Sample) → code < 0xE0 → waiting_of code s ≡ false
 unfolding waiting_of waits_of
-no-waiting code s h = rw (in-arm code _ _ 0 0 tt (omega arith) h) (in-arm 0 _ _ 0 0 tt (omega arith) (omega arith))
+no-waiting code s h = rw (in-arm code _ _ 0 0 tt (omega arith) h)
 
 pub waiting-by-row : (code : ℕ) (s : Sample) → listed (class_of code) ≡ true → waiting_by (row_of code) code s ≡ waiting_of code s
-unfolding waiting_by waits_by waiting_of
+unfolding waiting_by waiting_of
 waiting-by-row code s e = go (ltb code 0xE0) refl
   where
     go : (x : Bool) → ltb code 0xE0 ≡ x → waiting_by (row_of code) code s ≡ waiting_of code s

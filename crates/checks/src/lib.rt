@@ -2,34 +2,35 @@
 #![tactic(auto)]
 
 ghost use Rattle.std.specs.Prelude.{◌≡◌};
-ghost use Rattle.checks.specs.Asked.{refusal_by, waits_by, waiting_by};
+ghost use Rattle.checks.specs.Asked.{refusal_by, waiting_by};
+ghost use Rattle.checks.specs.Checks.{held_by};
+ghost use Rattle.refusals.specs.Refusals.{answer_of};
 
-use code::CodeRow;
+use code::{CodeRow, Waits};
+use refusals::Refusal;
 use state::Sample;
 
-// 0, or the number of the refusal: the one of CAD, or of an option that is not listed.
+// The refusal of CAD, or of an option that is not listed.
 #[tactic(auto, unfolding(crate::specs::Asked::refusal_by))]
-pub fn refusal(row: CodeRow, code: u8, b: u8) -> u8
-    ensures { result ≡ refusal_by row code b }
+pub fn refusal(row: CodeRow, code: u8, b: u8) -> Option<Refusal>
+    ensures { answer_of result ≡ refusal_by row code b }
 {
     if code == 0xAC {
-        return 6;
+        return Some(Refusal::Unlisted);
     }
     if row.options < b {
-        return 8;
+        return Some(Refusal::NotAnOption);
     }
-    0
+    None
 }
 
-#[tactic(auto, unfolding(crate::specs::Asked::waits_by, choose::specs::Ranged::ranged))]
-fn waits(row: CodeRow, sample: Sample) -> bool
-    ensures { result ≡ waits_by row sample }
+fn is_held(waits: Waits, sample: Sample) -> bool
+    ensures { result ≡ held_by waits sample.reply sample.busy }
 {
-    let kind = row.waits;
-    match kind {
-        0 => false,
-        1 => sample.reply | sample.busy,
-        _ => !sample.reply,
+    match waits {
+        Waits::Never => false,
+        Waits::ReplyOrBusyHigh => sample.reply | sample.busy,
+        Waits::ReplyLow => !sample.reply,
     }
 }
 
@@ -40,6 +41,6 @@ pub fn waiting(row: CodeRow, code: u8, sample: Sample) -> bool
 {
     match code {
         0x00..=0xDF => false,
-        _ => waits(row, sample),
+        _ => is_held(row.waits, sample),
     }
 }

@@ -4,7 +4,6 @@ use mathlib.Core.Bool.{Bool, true, false, beq, false≢true}
 use mathlib.Core.List.{List, [], ◌∷◌}
 use Prim.Native.Nat.{ℕ, zero, suc, ◌+◌, ◌<◌}
 use native.Mathlib.Nat.{add-zero, zero-add, add-suc, suc-add, le_of_suc-le-suc, not-suc-le-zero}
-use native.Mathlib.Numerals.{add-one}
 use native.Mathlib.Omega.{arith}
 use lib.Dec.{T, ltb, eqb, eqb→eq}
 use lib.ListN.{length, get_or}
@@ -45,11 +44,8 @@ below (suc n) f t k h = go (ltb k n) refl (below n f (both_right (f n) (all_belo
         let same : n ≡ k = omega (arith, ltb-false k n e) in
         rw same at (both_left (f n) (all_below n f) t)
 
--- a loop over the numbers makes one more of them, up to the first that fails
+-- from the test of all numbers, and from one that fails
 module _ (test : ℕ → Bool) where
-  pub all_more : (n : ℕ) → all_below n test ≡ true → test n ≡ true → all_below (n + 1) test ≡ true
-  all_more n e h = rw (add-one n, h) e
-
   pub all-at : (n i : ℕ) → all_below n test ≡ true → i < n → test i ≡ true
   all-at n i e l = holds (test i) (below n test (rw e tt) i l)
 

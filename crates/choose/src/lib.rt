@@ -7,5 +7,5 @@ ghost use Rattle.choose.specs.Ranged.{bit};
 pub fn bit_of(b: bool) -> u8
     ensures { (result ≡ bit b) × (result ≤ 1) }
 {
-    b as u8
+    u8::from(b)
 }

@@ -1,4 +1,3 @@
-pub mod Classes
 pub mod Digits
 pub mod Shape
 pub mod Tops

@@ -5,6 +5,7 @@ use mathlib.Core.Bool.{Bool, true, false}
 use native.Mathlib.Omega.{arith}
 use lib.Dec.{ltb}
 use borrow.Author.Tests.{lt-ltb, ltb-true, eq-eqb, eqb-true}
+use Rattle.std.specs.Prelude.{Ok, Err}
 use Rattle.choose.specs.Ranged.{bit, pick}
 use Rattle.code.specs.CodeRows.{class_of, listed, class_number}
 use Rattle.choose.proofs.Tests.{both_true, bit_le, is-bit, bit_is}
@@ -12,7 +13,7 @@ use Rattle.code.specs.Word.{top_of, code_of, code_in, fields_in, apart_as, apart
 use Rattle.code.specs.declared.Class.{Class}
 use Rattle.code.specs.declared.Operands.{Operands}
 use Rattle.code.specs.declared.Fields.{Fields}
-use Rattle.code.specs.declared.Apart.{Apart}
+use Rattle.code.specs.declared.Unread.{Unread}
 use Rattle.code.proofs.Shape.{stride_of, split, code-twice, code-back, back, high, fits-own, low-own, same_class, fit, fit-listed, fit-room, read_back}
 use Rattle.code.proofs.Tops.{listed_below, class-of-code, class-kept}
 
@@ -26,19 +27,19 @@ unfolding apart_as apart_of
 apart-as w = refl
 
 -- a word that comes apart is below 2^22 and listed, and the fields are its own
-pub apart-is : (w : ℕ) (f : Fields) → apart_of w ≡ Apart.Word f → (w < 0x40_0000) × (listed (class_in w) ≡ true) × (fields_in (class_in w) w ≡ f)
+pub apart-is : (w : ℕ) (f : Fields) → apart_of w ≡ Ok f → (w < 0x40_0000) × (listed (class_in w) ≡ true) × (fields_in (class_in w) w ≡ f)
 unfolding apart_of
 apart-is w f e = go (ltb w 0x40_0000) (listed (class_in w)) refl refl e
   where
     go : (a b : Bool) → ltb w 0x40_0000 ≡ a → listed (class_in w) ≡ b
-        → pick a (pick b (Apart.Word (fields_in (class_in w) w)) Apart.Unlisted) Apart.OutOfRange ≡ Apart.Word f
+        → pick a (pick b (Ok (fields_in (class_in w) w)) (Err Unread.Unlisted)) (Err Unread.OutOfRange) ≡ Ok f
         → (w < 0x40_0000) × (listed (class_in w) ≡ true) × (fields_in (class_in w) w ≡ f)
     go true true p q r = (ltb-true w 0x40_0000 p, q, cc)
     go true false p q r = let z : ◌≡◌ {A = ℕ} 0 1 = cc in absurd (omega arith)
     go false b p q r = let z : ◌≡◌ {A = ℕ} 0 1 = cc in absurd (omega arith)
 
 -- and such a word does come apart
-pub is-apart : (w : ℕ) → w < 0x40_0000 → listed (class_in w) ≡ true → apart_of w ≡ Apart.Word (fields_in (class_in w) w)
+pub is-apart : (w : ℕ) → w < 0x40_0000 → listed (class_in w) ≡ true → apart_of w ≡ Ok (fields_in (class_in w) w)
 unfolding apart_of
 is-apart w h e = rw (lt-ltb w 0x40_0000 h, e)
 
@@ -88,7 +89,7 @@ module _ (k : Class) (c : ℕ) (o : Operands) (own : k ≡ class_of c) (first : 
   -- with the bits above, such a word comes apart into what it was made of
   word_back : (a b : Bool) (u : ℕ) → u < 0x10
       → apart_of (low_of o + c * 0x100 + bit a * 0x1_0000 + bit b * 0x2_0000 + u * 0x4_0000)
-      ≡ Apart.Word (record { code = c; class = k; operands = o; load_rr = a; rni = b; user = u })
+      ≡ Ok (record { code = c; class = k; operands = o; load_rr = a; rni = b; user = u })
   unfolding fields_in
   word_back a b u h =
       let l = low_of o in
@@ -109,7 +110,7 @@ module _ (k : Class) (c : ℕ) (o : Operands) (own : k ≡ class_of c) (first : 
         is-bit b _ refl,
       )
 
-pub word-apart : (f : Fields) → well_formed f ≡ true → apart_of (word_of f) ≡ Apart.Word f
+pub word-apart : (f : Fields) → well_formed f ≡ true → apart_of (word_of f) ≡ Ok f
 unfolding word_of
 word-apart f e =
     let s = well-formed-says f e in

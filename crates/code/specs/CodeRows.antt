@@ -3,6 +3,8 @@ use Rattle.std.specs.Prelude.{ℕ, ◌+◌, ◌*◌, ◌/◌, ◌%◌, Bool, tru
 use Rattle.choose.specs.Ranged.{pick, ranged}
 use Rattle.code.specs.declared.Class.{Class}
 use Rattle.code.specs.declared.CodeRow.{CodeRow}
+use Rattle.code.specs.declared.Stores.{Stores}
+use Rattle.code.specs.declared.Waits.{Waits}
 
 -- manual 5.2's four formats; 01: "unlisted are 78-7F, AD, D4-D7 and E8-EB, 17 in all". Each range is named by its end
 abbrev pub classes : List (ℕ × Class)
@@ -53,17 +55,17 @@ cycles_of top =
     [])
     1
 
--- 1: "R, W, RA, WA and the F0-F7 codes wait if REPLY or BUSY is high"; 2: "IB, IW, OB, OW wait if REPLY is low"
-unfoldable pub waits_of : ℕ → ℕ
+-- "R, W, RA, WA and the F0-F7 codes wait if REPLY or BUSY is high"; "IB, IW, OB, OW wait if REPLY is low"
+unfoldable pub waits_of : ℕ → Waits
 waits_of top =
     ranged top
-    ((0xE0, 0) ∷
-    (0xE4, 2) ∷  -- IB, IW
-    (0xF0, 0) ∷
-    (0xFC, 1) ∷
-    (0xFE, 2) ∷  -- OB, OW
+    ((0xE0, Waits.Never) ∷
+    (0xE4, Waits.ReplyLow) ∷  -- IB, IW
+    (0xF0, Waits.Never) ∷
+    (0xFC, Waits.ReplyOrBusyHigh) ∷
+    (0xFE, Waits.ReplyLow) ∷  -- OB, OW
     [])
-    0
+    Waits.Never
 
 -- the highest b that is listed: "IB and IW take b 0-7, ISB 0-3"
 unfoldable pub options_of : ℕ → ℕ
@@ -101,34 +103,38 @@ condition_flags_of top =
     [])
     0
 
--- the registers that are written. 0: none, "Compare and test write no register", nor do jumps, lines, interrupts and loads of G, TR, TSR or flags;
--- 1: Ra; 2: the pair of Ra and its high byte; 3: Ra and Rb, "F0-F7: Ra gains 1 or 2; the word codes then add the carry to Rb"
-unfoldable pub stores_of : ℕ → ℕ
+-- Ra, or what a word code writes in its place
+abbrev pub ra_or : Stores → ℕ → Stores
+ra_or word top = pick (eqb (word_bit top) 0) Stores.Ra word
+
+-- the registers that are written. "Compare and test write no register", nor do jumps, lines, interrupts and loads of G, TR, TSR or flags; a pair is
+-- that of Ra and its high byte; "F0-F7: Ra gains 1 or 2; the word codes then add the carry to Rb"
+unfoldable pub stores_of : ℕ → Stores
 stores_of top =
     ranged top
-    ((0x20, 0) ∷
-    (0x30, 1) ∷  -- AL
-    (0x40, 0) ∷
-    (0x50, 1) ∷  -- NL
-    (0x60, 0) ∷
-    (0x70, 1) ∷  -- LL
-    (0x72, 0) ∷
-    (0x73, 1) ∷  -- CCF
-    (0x76, 0) ∷
-    (0x80, 1) ∷  -- CIB, CDB
-    (0xB4, 1 + word_bit top) ∷  -- moves to subtracts
-    (0xB8, 0) ∷  -- CB, CW
-    (0xC4, 1 + word_bit top) ∷
-    (0xC8, 0) ∷  -- TB, TW
-    (0xE8, 1 + word_bit top) ∷
-    (0xF0, 0) ∷
-    (0xF8, 1 + 2 * word_bit top) ∷  -- reads and writes that increment
+    ((0x20, Stores.Nothing) ∷
+    (0x30, Stores.Ra) ∷  -- AL
+    (0x40, Stores.Nothing) ∷
+    (0x50, Stores.Ra) ∷  -- NL
+    (0x60, Stores.Nothing) ∷
+    (0x70, Stores.Ra) ∷  -- LL
+    (0x72, Stores.Nothing) ∷
+    (0x73, Stores.Ra) ∷  -- CCF
+    (0x76, Stores.Nothing) ∷
+    (0x80, Stores.Ra) ∷  -- CIB, CDB
+    (0xB4, ra_or Stores.RaPair top) ∷  -- moves to subtracts
+    (0xB8, Stores.Nothing) ∷  -- CB, CW
+    (0xC4, ra_or Stores.RaPair top) ∷
+    (0xC8, Stores.Nothing) ∷  -- TB, TW
+    (0xE8, ra_or Stores.RaPair top) ∷
+    (0xF0, Stores.Nothing) ∷
+    (0xF8, ra_or Stores.RaAndRb top) ∷  -- reads and writes that increment
     [])
-    0
+    Stores.Nothing
 
 -- the row of an unlisted top byte
 abbrev pub blank : CodeRow
-blank = record { class = Class.Unlisted; cycles = 0; waits = 0; options = 0; flags = 0; stores = 0 }
+blank = record { class = Class.Unlisted; cycles = 0; waits = Waits.Never; options = 0; flags = 0; stores = Stores.Nothing }
 
 unfoldable pub row_of : ℕ → CodeRow
 row_of top =
@@ -150,3 +156,16 @@ class_number Class.Jump = 1
 class_number Class.Conditional = 2
 class_number Class.Literal = 3
 class_number Class.Register = 4
+
+-- the number of a way to wait
+abbrev pub waits_number : Waits → ℕ
+waits_number Waits.Never = 0
+waits_number Waits.ReplyOrBusyHigh = 1
+waits_number Waits.ReplyLow = 2
+
+-- the number of the registers that are written
+abbrev pub stores_number : Stores → ℕ
+stores_number Stores.Nothing = 0
+stores_number Stores.Ra = 1
+stores_number Stores.RaPair = 2
+stores_number Stores.RaAndRb = 3

@@ -1,12 +1,21 @@
 -- A word taken apart and put together: manual 5.2's formats with the bits of 5.3.2, and 01's bits 16-21.
-use Rattle.std.specs.Prelude.{ℕ, ◌+◌, ◌*◌, ◌/◌, ◌%◌, ◌<◌, ◌≡◌, Bool, ◌&&◌, eqb, ltb}
+use Rattle.std.specs.Prelude.{ℕ, ◌+◌, ◌*◌, ◌/◌, ◌%◌, ◌<◌, ◌≡◌, Bool, ◌&&◌, eqb, ltb, Option, Some, None, Result, Ok, Err}
 use Rattle.choose.specs.Ranged.{bit, pick}
+use Rattle.refusals.specs.declared.Refusal.{Refusal}
 use Rattle.code.specs.CodeRows.{class_of, listed, class_number}
 use Rattle.code.specs.declared.Class.{Class}
 use Rattle.code.specs.declared.Operands.{Operands}
 use Rattle.code.specs.declared.Fields.{Fields}
-use Rattle.code.specs.declared.Apart.{Apart}
-use Rattle.code.specs.declared.Together.{Together}
+use Rattle.code.specs.declared.Unread.{Unread}
+
+-- a word taken apart, or why it is not
+abbrev pub Apart : Type 0
+Apart = Result Fields Unread
+
+-- the refusal of a word that is not taken apart
+abbrev pub refusal_for : Unread → Refusal
+refusal_for Unread.OutOfRange = Refusal.WordRange
+refusal_for Unread.Unlisted = Refusal.Unlisted
 
 -- bits 15-8
 abbrev pub top_of : ℕ → ℕ
@@ -22,6 +31,14 @@ code_in Class.Register top = top
 
 unfoldable pub code_of : ℕ → ℕ
 code_of top = code_in (class_of top) top
+
+-- the last top byte of the instruction
+abbrev pub last_in : Class → ℕ → ℕ
+last_in Class.Unlisted top = top
+last_in Class.Jump top = top / 8 * 8 + 7
+last_in Class.Conditional top = top
+last_in Class.Literal top = top / 0x10 * 0x10 + 0xF
+last_in Class.Register top = top
 
 -- 5.3.2: bits 10-0 of a jump are the address, 7-0 of a conditional jump; 11-4 the literal; 7-4 are b and 3-0 a. "don't-care bits kept".
 -- An unlisted top byte has no operands: the 0 stands for none
@@ -54,19 +71,19 @@ fields_in k w =
 
 -- where its top byte is of the class k
 unfoldable pub apart_as : Class → ℕ → Apart
-apart_as k w = pick (ltb w 0x40_0000) (pick (listed k) (Apart.Word (fields_in k w)) Apart.Unlisted) Apart.OutOfRange
+apart_as k w = pick (ltb w 0x40_0000) (pick (listed k) (Ok (fields_in k w)) (Err Unread.Unlisted)) (Err Unread.OutOfRange)
 
 unfoldable pub apart_of : ℕ → Apart
 apart_of w =
     pick (ltb w 0x40_0000)
-    (pick (listed (class_of (top_of w))) (Apart.Word (fields_in (class_of (top_of w)) w)) Apart.Unlisted)
-    Apart.OutOfRange
+    (pick (listed (class_of (top_of w))) (Ok (fields_in (class_of (top_of w)) w)) (Err Unread.Unlisted))
+    (Err Unread.OutOfRange)
 
 -- 01's number for each case: 2, "a word of 2^22 or more"; 6, "code unlisted"
 abbrev pub number_of : Apart → ℕ
-number_of (Apart.Word f) = 0
-number_of Apart.OutOfRange = 2
-number_of Apart.Unlisted = 6
+number_of (Ok f) = 0
+number_of (Err Unread.OutOfRange) = 2
+number_of (Err Unread.Unlisted) = 6
 
 abbrev pub same : Class → Class → Bool
 same k l = eqb (class_number k) (class_number l)
@@ -115,5 +132,5 @@ unfoldable pub word_of : Fields → ℕ
 word_of f =
     low_of f.operands + f.code * 0x100 + bit f.load_rr * 0x1_0000 + bit f.rni * 0x2_0000 + f.user * 0x4_0000
 
-unfoldable pub together_of : Fields → Together
-together_of f = pick (well_formed f) (Together.Word (word_of f)) Together.Malformed
+unfoldable pub together_of : Fields → Option ℕ
+together_of f = pick (well_formed f) (Some (word_of f)) None

@@ -2,16 +2,18 @@
 #![tactic(auto)]
 
 ghost use Rattle.std.specs.Prelude.{◌≡◌, ◌<◌, get_or};
-ghost use Rattle.code.specs.CodeRows.{class_of, listed, class_number, row_of};
-ghost use Rattle.code.specs.Entries.{class_at, row_of_entry, entries};
-ghost use Rattle.code.specs.Word.{code_in, target_in, operands_in, apart_as, apart_of, same, reach_of, fits_in, well_formed, low_of, together_of};
+ghost use Rattle.code.specs.CodeRows.{class_of, listed, row_of};
+ghost use Rattle.code.specs.Entries.{class_at, waits_at, stores_at, row_of_entry, entries};
+ghost use Rattle.code.specs.Word.{refusal_for, code_in, last_in, target_in, operands_in, apart_as, apart_of, reach_of, fits_in};
+ghost use Rattle.code.specs.Word.{well_formed, low_of, together_of};
 
 use choose::bit_of;
+use refusals::Refusal;
 
 mod table;
 
 // Manual 5.2's four classes of instruction, which are its formats.
-#[derive(Clone, Copy)]
+#[derive(Clone, Copy, PartialEq, Eq)]
 pub enum Class {
     Unlisted,
     Jump,
@@ -20,19 +22,34 @@ pub enum Class {
     Register,
 }
 
-// What the top byte alone decides. All fields of an unlisted one are 0.
+// The lines while which an instruction waits.
+#[derive(Clone, Copy, PartialEq, Eq)]
+pub enum Waits {
+    Never,
+    ReplyOrBusyHigh,
+    ReplyLow,
+}
+
+// The registers that an instruction writes. Ra's pair is Ra and its high byte.
+#[derive(Clone, Copy, PartialEq, Eq)]
+pub enum Stores {
+    Nothing,
+    Ra,
+    RaPair,
+    RaAndRb,
+}
+
+// What the top byte alone decides. An unlisted one has no cycles, options or flags, never waits and writes nothing.
 #[derive(Clone, Copy)]
 pub struct CodeRow {
     pub class: Class,
     pub cycles: u8,
-    // 1: waits while REPLY or BUSY is high; 2: waits while REPLY is low.
-    pub waits: u8,
+    pub waits: Waits,
     // The highest b that is listed.
     pub options: u8,
     // The flags that it may write, as bits of the flag byte N Z V C NB ZB C4 C8.
     pub flags: u8,
-    // The registers that it writes. 0: none; 1: Ra; 2: Ra's pair; 3: Ra and Rb.
-    pub stores: u8,
+    pub stores: Stores,
 }
 
 // What stands in the places of the format: an address, a literal with a register, or two designators.
@@ -54,18 +71,22 @@ pub struct Fields {
     pub user: u8,
 }
 
-#[derive(Clone, Copy)]
-pub enum Apart {
-    Word(Fields),
+// Why a word has no fields: it is 2^22 or more, or its top byte is unlisted.
+#[derive(Clone, Copy, PartialEq, Eq)]
+pub enum Unread {
     OutOfRange,
     Unlisted,
 }
 
-// Malformed: no listed word has these fields.
-#[derive(Clone, Copy)]
-pub enum Together {
-    Word(u32),
-    Malformed,
+impl From<Unread> for Refusal {
+    ghost from_gives = { λ unread refusal. refusal ≡ refusal_for unread };
+
+    fn from(unread: Unread) -> Refusal {
+        match unread {
+            Unread::OutOfRange => Refusal::WordRange,
+            Unread::Unlisted => Refusal::Unlisted,
+        }
+    }
 }
 
 // The class of a top byte.
@@ -97,6 +118,7 @@ pub fn rows() -> [u32; 256]
     table::ROWS
 }
 
+// A digit of the table. No TryFrom here and below: each number has an answer, so that whatever table is lent has rows.
 #[tactic(auto, unfolding(crate::specs::Entries::class_at, choose::specs::Ranged::ranged))]
 fn class_at(n: u32) -> Class
     ensures { result ≡ class_at n }
@@ -110,6 +132,29 @@ fn class_at(n: u32) -> Class
     }
 }
 
+#[tactic(auto, unfolding(crate::specs::Entries::waits_at, choose::specs::Ranged::ranged))]
+fn waits_at(n: u32) -> Waits
+    ensures { result ≡ waits_at n }
+{
+    match n {
+        0 => Waits::Never,
+        1 => Waits::ReplyOrBusyHigh,
+        _ => Waits::ReplyLow,
+    }
+}
+
+#[tactic(auto, unfolding(crate::specs::Entries::stores_at, choose::specs::Ranged::ranged))]
+fn stores_at(n: u32) -> Stores
+    ensures { result ≡ stores_at n }
+{
+    match n {
+        0 => Stores::Nothing,
+        1 => Stores::Ra,
+        2 => Stores::RaPair,
+        _ => Stores::RaAndRb,
+    }
+}
+
 // The row of a top byte in the table that `rows` gave.
 #[tactic(auto, unfolding(crate::specs::Entries::row_of_entry))]
 pub fn row_in(rows: &[u32; 256], top: u8) -> CodeRow
@@ -118,13 +163,15 @@ pub fn row_in(rows: &[u32; 256], top: u8) -> CodeRow
     let i = top as usize;
     let n = rows[i];
     let class = class_at(n % 0x10);
+    let waits = waits_at(n / 0x100 % 0x10);
+    let stores = stores_at(n / 0x100_0000 % 0x10);
     CodeRow {
         class,
         cycles: (n / 0x10 % 0x10) as u8,
-        waits: (n / 0x100 % 0x10) as u8,
+        waits,
         options: (n / 0x1000 % 0x10) as u8,
         flags: (n / 0x1_0000 % 0x100) as u8,
-        stores: (n / 0x100_0000 % 0x10) as u8,
+        stores,
     }
 }
 
@@ -139,47 +186,34 @@ pub fn row_of(top: u8) -> CodeRow
 pub fn is_listed(class: Class) -> bool
     ensures { result ≡ listed class }
 {
-    match class {
-        Class::Unlisted => false,
-        Class::Jump => true,
-        Class::Conditional => true,
-        Class::Literal => true,
-        Class::Register => true,
-    }
-}
-
-fn class_number(class: Class) -> u8
-    ensures { result ≡ class_number class }
-{
-    match class {
-        Class::Unlisted => 0,
-        Class::Jump => 1,
-        Class::Conditional => 2,
-        Class::Literal => 3,
-        Class::Register => 4,
-    }
-}
-
-fn is_same(x: Class, y: Class) -> bool
-    ensures { result ≡ same x y }
-{
-    class_number(x) == class_number(y)
+    class != Class::Unlisted
 }
 
 // Tests and no match here and below: a table of jumps, which the compiler would make of five classes, is guessed worse than two tests.
 fn code_in(class: Class, top: u8) -> u8
     ensures { result ≡ code_in class top }
 {
-    if is_same(class, Class::Register) {
+    if class == Class::Register {
         return top;
     }
-    if is_same(class, Class::Literal) {
+    if class == Class::Literal {
         return top / 0x10 * 0x10;
     }
-    if is_same(class, Class::Jump) {
+    if class == Class::Jump {
         return top / 8 * 8;
     }
     top
+}
+
+// The last top byte of the instruction that has this one.
+pub fn last_code(class: Class, top: u8) -> u8
+    ensures { result ≡ last_in class top }
+{
+    match class {
+        Class::Jump => top / 8 * 8 + 7,
+        Class::Literal => top / 0x10 * 0x10 + 0xF,
+        _ => top,
+    }
 }
 
 fn target_in(class: Class, word: u32) -> u16
@@ -192,17 +226,18 @@ fn target_in(class: Class, word: u32) -> u16
     }
 }
 
+// Quotients and no bytes here and below: most of a word's fields are no whole bytes.
 #[tactic(auto, unfolding(crate::specs::Word::operands_in))]
 pub fn operands_in(class: Class, word: u32) -> Operands
     ensures { result ≡ operands_in class word }
 {
-    if is_same(class, Class::Register) {
+    if class == Class::Register {
         return Operands::Two {
             b: (word / 0x10 % 0x10) as u8,
             a: (word % 0x10) as u8,
         };
     }
-    if is_same(class, Class::Literal) {
+    if class == Class::Literal {
         return Operands::Literal {
             value: (word / 0x10 % 0x100) as u8,
             reg: (word % 0x10) as u8,
@@ -213,19 +248,19 @@ pub fn operands_in(class: Class, word: u32) -> Operands
 
 // A word taken apart whose top byte is of this class.
 #[tactic(auto, unfolding(crate::specs::Word::apart_as, crate::specs::Word::fields_in))]
-pub fn taken_apart_as(class: Class, word: u32) -> Apart
+pub fn taken_apart_as(class: Class, word: u32) -> Result<Fields, Unread>
     ensures { result ≡ apart_as class word }
 {
     if 0x40_0000 <= word {
-        return Apart::OutOfRange;
+        return Err(Unread::OutOfRange);
     }
     if !is_listed(class) {
-        return Apart::Unlisted;
+        return Err(Unread::Unlisted);
     }
     let top = (word / 0x100 % 0x100) as u8;
     let code = code_in(class, top);
     let operands = operands_in(class, word);
-    Apart::Word(Fields {
+    Ok(Fields {
         code,
         class,
         operands,
@@ -236,7 +271,7 @@ pub fn taken_apart_as(class: Class, word: u32) -> Apart
 }
 
 #[tactic(auto, unfolding(crate::specs::Word::apart_as, crate::specs::Word::apart_of))]
-pub fn taken_apart(word: u32) -> Apart
+pub fn taken_apart(word: u32) -> Result<Fields, Unread>
     ensures { result ≡ apart_of word }
 {
     let top = (word / 0x100 % 0x100) as u8;
@@ -262,8 +297,8 @@ fn fits(class: Class, operands: Operands) -> bool
 {
     match operands {
         Operands::Jump(n) => n < reach(class),
-        Operands::Literal { value: _, reg } => (reg < 0x10) & is_same(class, Class::Literal),
-        Operands::Two { b, a } => (b < 0x10) & (a < 0x10) & is_same(class, Class::Register),
+        Operands::Literal { value: _, reg } => (reg < 0x10) & (class == Class::Literal),
+        Operands::Two { b, a } => (b < 0x10) & (a < 0x10) & (class == Class::Register),
     }
 }
 
@@ -275,7 +310,7 @@ fn is_well_formed(f: Fields) -> bool
     let class = f.class;
     let operands = f.operands;
     let own = class_of(code);
-    is_same(class, own) & (code_in(class, code) == code) & fits(class, operands) & (f.user < 0x10)
+    (class == own) & (code_in(class, code) == code) & fits(class, operands) & (f.user < 0x10)
 }
 
 pub fn low_of(operands: Operands) -> u32
@@ -288,18 +323,19 @@ pub fn low_of(operands: Operands) -> u32
     }
 }
 
+// None: no listed word has these fields.
 #[tactic(auto, unfolding(crate::specs::Word::together_of, crate::specs::Word::word_of))]
-pub fn put_together(f: Fields) -> Together
+pub fn put_together(f: Fields) -> Option<u32>
     ensures { result ≡ together_of f }
 {
     if !is_well_formed(f) {
-        return Together::Malformed;
+        return None;
     }
     let operands = f.operands;
     let low = low_of(operands);
     let load_rr = bit_of(f.load_rr) as u32;
     let rni = bit_of(f.rni) as u32;
-    Together::Word(
+    Some(
         low + f.code as u32 * 0x100
             + load_rr * 0x1_0000
             + rni * 0x2_0000

@@ -8,13 +8,13 @@ use lib.Dec.{T, leb, leb→le}
 use lib.ListN.{take, drop}
 use borrow.Author.Tests.{lt-ltb, le-ltb}
 use Rattle.choose.specs.Ranged.{ranged}
-use Rattle.choose.proofs.Ranged.{past, end_of, arm_of, in-arm, in_rest}
+use Rattle.choose.proofs.Ranged.{past, end_of, arm_of}
 use Rattle.choose.proofs.Tests.{both_left, both_right}
 use Rattle.state.specs.declared.Bus.{Bus}
 use Rattle.state.specs.declared.Latches.{Latches}
 use Rattle.state.specs.declared.Sample.{Sample}
 use Rattle.control.specs.Bus.{bus_after, request_of}
-use Rattle.control.specs.Latches.{used, latches_after}
+use Rattle.control.specs.Latches.{latches_after}
 use Rattle.control.specs.Parts.{latches_after70_to77, latches_after_input, latches_after_load}
 
 module _ {A : Type 0} where
@@ -47,42 +47,14 @@ module _ (l : Latches) (code b ra pair : ℕ) (s : Sample) where
   unfolding latches_after latches_after_load
   latches-load h = arms-from _ _ _ 7 0xE8 tt h
 
-  pub latches-operation : 0x76 ≤ code → code < 0xE0 → latches_after l code b ra pair s ≡ used l
-  unfolding latches_after
-  latches-operation h g = in-arm _ _ _ 5 0x76 tt h (omega arith)
-
-  pub latches-out : 0xF0 ≤ code → latches_after l code b ra pair s ≡ used l
-  unfolding latches_after
-  latches-out h = in_rest _ _ _ 0xF0 tt h
-
 module _ (held : Bus) (code : ℕ) (rmw : Bool) where
-  pub bus-before-input : (pair : ℕ) → code < 0xE0 → bus_after held code rmw pair ≡ held
-  unfolding bus_after
-  bus-before-input pair h = in-arm _ _ _ 0 0 tt (omega arith) h
-
-  pub bus-load : (pair : ℕ) → 0xE8 ≤ code → code < 0xF0 → bus_after held code rmw pair ≡ held
-  unfolding bus_after
-  bus-load pair h g = in-arm _ _ _ 2 0xE8 tt h g
-
-  -- a pair counts only where it is put out
-  pub bus-without-pair : (p q : ℕ) → code < 0xF0 → bus_after held code rmw p ≡ bus_after held code rmw q
-  unfolding bus_after
-  bus-without-pair p q h = arms-to _ _ _ 2 h ∙ sym (arms-to _ _ _ 2 h)
-
-  -- and RMW only where it is an input
+  -- RMW counts only where it is an input
   pub bus-without-rmw : (t : Bool) (pair : ℕ) → 0xF0 ≤ code → bus_after held code rmw pair ≡ bus_after held code t pair
   unfolding bus_after
   bus-without-rmw t pair h = arms-from _ _ _ 3 0xF0 tt h ∙ sym (arms-from _ _ _ 3 0xF0 tt h)
 
 module _ (code dal : ℕ) where
-  pub request-before-input : (pair : ℕ) → code < 0xE0 → request_of code pair dal ≡ 0
-  unfolding request_of
-  request-before-input pair h = in-arm _ _ _ 0 0 tt (omega arith) h
-
-  pub request-load : (pair : ℕ) → 0xE8 ≤ code → code < 0xF0 → request_of code pair dal ≡ 0
-  unfolding request_of
-  request-load pair h g = in-arm _ _ _ 3 0xE8 tt h g
-
+  -- a pair counts only where it is put out
   pub request-without-pair : (p q : ℕ) → code < 0xF0 → request_of code p dal ≡ request_of code q dal
   unfolding request_of
   request-without-pair p q h = arms-to _ _ _ 3 h ∙ sym (arms-to _ _ _ 3 h)

@@ -1,22 +1,15 @@
 // What an executed instruction does outside the register file: bus, request, latches, and the next address.
 #![tactic(auto)]
 
-ghost use Rattle.std.specs.Prelude.{◌≡◌, ◌≤◌};
+ghost use Rattle.std.specs.Prelude.{◌≡◌, false};
 ghost use Rattle.control.specs.Bus.{bus_with, q1_of, rmw_of, after_input, bus_after, placed, request_of};
-ghost use Rattle.control.specs.Latches.{used, with_interrupts, with_modification, with_loaded, input_latches_of};
+ghost use Rattle.control.specs.Latches.{used, input_latches_of};
 ghost use Rattle.control.specs.Parts.{latches_after70_to77, latches_after_input, latches_after_load};
-ghost use Rattle.rows.specs.Scan.{none};
 ghost use Rattle.control.specs.Next.{condition_of, jump_taken, within_page, way_of, tr_byte_of, inputs_of, plus_one, onward_of, next_of, rr_of, tsr_of, address_after};
 
 use alu::Flags;
 use rows::{Inputs, Outputs};
 use state::{Address, Bus, Core, Latches, Marking, Sample};
-
-fn bus_with(m: u16, sync: bool, iack: bool) -> Bus
-    ensures { result ≡ bus_with m sync iack }
-{
-    Bus { m, sync, iack }
-}
 
 // Of bits 14 to 6 of TR.
 #[tactic(auto, unfolding(crate::specs::Bus::q1_of))]
@@ -47,29 +40,42 @@ pub fn rmw(marking: Marking, tr: u16, b: u8) -> bool
     }
 }
 
+// SYNC and IACK drop, M stays.
+fn dropped(held: Bus) -> Bus
+    ensures { result ≡ bus_with held.m false false }
+{
+    Bus {
+        sync: false,
+        iack: false,
+        ..held
+    }
+}
+
 // RMW keeps the bus.
 #[tactic(auto, unfolding(crate::specs::Bus::after_input))]
 fn after_input(held: Bus, rmw: bool) -> Bus
     ensures { result ≡ after_input held rmw }
 {
-    if rmw {
-        return held;
-    }
-    bus_with(held.m, false, false)
+    if rmw { held } else { dropped(held) }
 }
 
 #[tactic(auto, unfolding(crate::specs::Bus::bus_after, choose::specs::Ranged::ranged))]
 pub fn bus_after(held: Bus, code: u8, rmw: bool, pair: u16) -> Bus
     ensures { result ≡ bus_after held code rmw pair }
 {
+    let put = Bus { m: pair, ..held };
     match code {
         0x00..=0xDF => held,
         0xE0..=0xE3 => after_input(held, rmw),
         0xE4..=0xEF => held,
-        0xF0..=0xF9 => bus_with(pair, true, held.iack),
-        0xFA..=0xFB => bus_with(pair, true, true),
-        0xFC..=0xFD => bus_with(pair, false, false),
-        0xFE => bus_with(pair, held.sync, held.iack),
+        0xF0..=0xF9 => Bus { sync: true, ..put },
+        0xFA..=0xFB => Bus {
+            sync: true,
+            iack: true,
+            ..put
+        },
+        0xFC..=0xFD => dropped(put),
+        0xFE => put,
         _ => held,
     }
 }
@@ -103,39 +109,9 @@ pub fn used(l: Latches) -> Latches
     ensures { result ≡ used l }
 {
     Latches {
-        g: l.g,
-        tr: l.tr,
-        ics: l.ics,
-        interrupts: l.interrupts,
         marked: false,
         modification: 0,
-    }
-}
-
-fn with_interrupts(l: Latches, interrupts: u8) -> Latches
-    ensures { result ≡ with_interrupts l interrupts }
-{
-    Latches {
-        g: l.g,
-        tr: l.tr,
-        ics: l.ics,
-        interrupts,
-        marked: false,
-        modification: 0,
-    }
-}
-
-// With another G, TR and ICS, which LGL, LTR and IW load.
-fn with_loaded(l: Latches, g: u8, tr: u16, ics: bool) -> Latches
-    ensures { result ≡ with_loaded l g tr ics }
-{
-    Latches {
-        g,
-        tr,
-        ics,
-        interrupts: l.interrupts,
-        marked: false,
-        modification: 0,
+        ..l
     }
 }
 
@@ -143,25 +119,22 @@ fn with_loaded(l: Latches, g: u8, tr: u16, ics: bool) -> Latches
 fn input_latches(l: Latches, b: u8, dal: u16, ics: bool) -> Latches
     ensures { result ≡ input_latches_of l b dal ics }
 {
+    let loaded = Latches {
+        tr: dal,
+        ics,
+        ..used(l)
+    };
     match b % 4 {
         0 => used(l),
-        1 => with_loaded(l, (dal / 16 % 8) as u8, dal, ics),
-        2 => with_loaded(l, (dal / 64 % 8) as u8, dal, ics),
-        _ => with_loaded(l, l.g, dal, ics),
-    }
-}
-
-// MI: the modification of the next word waits, marked.
-fn with_modification(l: Latches, modification: u16) -> Latches
-    ensures { result ≡ with_modification l modification }
-{
-    Latches {
-        g: l.g,
-        tr: l.tr,
-        ics: l.ics,
-        interrupts: l.interrupts,
-        marked: true,
-        modification,
+        1 => Latches {
+            g: (dal / 16 % 8) as u8,
+            ..loaded
+        },
+        2 => Latches {
+            g: (dal / 64 % 8) as u8,
+            ..loaded
+        },
+        _ => loaded,
     }
 }
 
@@ -170,9 +143,18 @@ pub fn latches_after_70_to_77(l: Latches, code: u8, b: u8, ra: u8) -> Latches
     ensures { result ≡ latches_after70_to77 l code b ra }
 {
     match code {
-        0x70 => with_interrupts(l, l.interrupts & (7 - b % 8)),
-        0x71 => with_interrupts(l, l.interrupts | b % 8),
-        0x75 => with_loaded(l, ra % 8, l.tr, l.ics),
+        0x70 => Latches {
+            interrupts: l.interrupts & (7 - b % 8),
+            ..used(l)
+        },
+        0x71 => Latches {
+            interrupts: l.interrupts | b % 8,
+            ..used(l)
+        },
+        0x75 => Latches {
+            g: ra % 8,
+            ..used(l)
+        },
         _ => used(l),
     }
 }
@@ -187,13 +169,21 @@ pub fn latches_after_input(l: Latches, code: u8, b: u8, sample: Sample) -> Latch
     }
 }
 
+// MI: the modification of the next word waits, marked.
 #[tactic(auto, unfolding(crate::specs::Parts::latches_after_load, choose::specs::Ranged::ranged))]
 pub fn latches_after_load(l: Latches, code: u8, pair: u16) -> Latches
     ensures { result ≡ latches_after_load l code pair }
 {
     match code {
-        0xEC..=0xED => with_modification(l, pair),
-        0xEE..=0xEF => with_loaded(l, l.g, pair, l.ics),
+        0xEC..=0xED => Latches {
+            marked: true,
+            modification: pair,
+            ..l
+        },
+        0xEE..=0xEF => Latches {
+            tr: pair,
+            ..used(l)
+        },
         _ => used(l),
     }
 }
@@ -208,17 +198,16 @@ pub enum Way {
 
 #[tactic(auto, unfolding(crate::specs::Next::condition_of, choose::specs::Ranged::ranged))]
 fn condition(code: u8, f: Flags, ics: bool) -> bool
-    requires { 0x10 ≤ code }
     ensures { result ≡ condition_of code f ics }
 {
-    match code / 2 {
-        0x08 => f.zb,
-        0x09 => f.c8,
-        0x0A => ics,
-        0x0B => f.nb,
-        0x0C => f.z,
-        0x0D => f.c,
-        0x0E => f.v,
+    match code {
+        0x00..=0x11 => f.zb,
+        0x12..=0x13 => f.c8,
+        0x14..=0x15 => ics,
+        0x16..=0x17 => f.nb,
+        0x18..=0x19 => f.z,
+        0x1A..=0x1B => f.c,
+        0x1C..=0x1D => f.v,
         _ => f.n,
     }
 }
@@ -226,23 +215,19 @@ fn condition(code: u8, f: Flags, ics: bool) -> bool
 // Odd codes jump where the condition is true, even ones where it is false.
 #[tactic(auto, unfolding(crate::specs::Next::jump_taken))]
 fn jump_taken(code: u8, f: Flags, ics: bool) -> bool
-    requires { 0x10 ≤ code }
     ensures { result ≡ jump_taken code f ics }
 {
-    let t = condition(code, f, ics);
-    if code % 2 == 1 {
-        return t;
-    }
-    !t
+    condition(code, f, ics) == (code % 2 == 1)
 }
 
 fn within_page(lc: u16, n: u16, jumps: bool) -> Way
     ensures { result ≡ within_page lc n jumps }
 {
     if jumps {
-        return Way::Jump(lc / 256 * 256 + n % 256);
+        Way::Jump(lc / 256 * 256 + n % 256)
+    } else {
+        Way::Onward
     }
-    Way::Onward
 }
 
 #[tactic(auto, unfolding(crate::specs::Next::way_of, choose::specs::Ranged::ranged))]
@@ -263,9 +248,10 @@ fn tr_byte(tr: u16, tsr: u8) -> u8
     ensures { result ≡ tr_byte_of tr tsr }
 {
     if tsr / 4 % 2 == 1 {
-        return (tr % 256) as u8;
+        (tr % 256) as u8
+    } else {
+        (tr / 256) as u8
     }
-    (tr / 256) as u8
 }
 
 #[tactic(auto, unfolding(crate::specs::Next::inputs_of))]
@@ -296,12 +282,12 @@ fn onward(a: Address, o: Outputs) -> u16
     ensures { result ≡ onward_of a o }
 {
     if rows::lra(o) {
-        return a.rr;
+        a.rr
+    } else if rows::lta(o) {
+        o.address
+    } else {
+        plus_one(a.lc)
     }
-    if rows::lta(o) {
-        return o.address;
-    }
-    plus_one(a.lc)
 }
 
 #[tactic(auto, unfolding(crate::specs::Next::next_of))]
@@ -319,10 +305,7 @@ fn next(a: Address, way: Way, o: Outputs) -> u16
 fn rr_after(a: Address, loads: bool) -> u16
     ensures { result ≡ rr_of a loads }
 {
-    if loads {
-        return plus_one(a.lc);
-    }
-    a.rr
+    if loads { plus_one(a.lc) } else { a.rr }
 }
 
 // RTSR clears TSR and wins over LTSR.
@@ -331,34 +314,24 @@ fn tsr_after(tsr: u8, code: u8, o: Outputs) -> u8
     ensures { result ≡ tsr_of tsr code o }
 {
     if code == 0x74 {
-        return 0;
+        0
+    } else if rows::ltsr(o) {
+        o.new_tsr
+    } else {
+        tsr
     }
-    if rows::ltsr(o) {
-        return o.new_tsr;
-    }
-    tsr
 }
 
 // Where no row puts a line out, nothing of the rows is looked at.
-#[tactic(auto, unfolding(crate::specs::Next::next_of, crate::specs::Next::onward_of))]
-fn unled(a: Address, way: Way) -> u16
-    ensures { result ≡ next_of a way none }
-{
-    match way {
-        Way::Jump(to) => to,
-        Way::Return => a.rr,
-        Way::Onward => plus_one(a.lc),
-    }
-}
-
 #[tactic(auto, unfolding(crate::specs::Next::next_of, crate::specs::Next::onward_of, crate::specs::Next::tsr_of, crate::specs::Next::address_after))]
 pub fn address_after(a: Address, way: Way, code: u8, loads: bool, o: Outputs) -> Address
     ensures { result ≡ address_after a way code loads o }
 {
     let rr = rr_after(a, loads);
     if o.lines == 0 {
-        let lc = unled(a, way);
-        let tsr = tsr_after(a.tsr, code, rows::none());
+        let none = rows::none();
+        let lc = next(a, way, none);
+        let tsr = tsr_after(a.tsr, code, none);
         return Address { lc, rr, tsr };
     }
     let lc = next(a, way, o);

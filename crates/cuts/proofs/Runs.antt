@@ -10,7 +10,7 @@ use lib.Dec.{eqb}
 use lib.ListN.{length, set, take-append-drop, length-append, length-drop}
 use lib.Seq.{length-take-le}
 use Rattle.attempt.specs.Attempt.{attempt_of}
-use Rattle.attempt.specs.declared.Outcome.{Outcome}
+use Rattle.attempt.specs.Outcome.{Outcome}
 use Rattle.choose.proofs.Choice.{pick-both}
 use Rattle.choose.specs.Ranged.{pick}
 use Rattle.engine.specs.Run.{World, world, put4_of, stepped_of, stopped_of, run_from}

@@ -4,7 +4,7 @@ use mathlib.Core.Path.{◌≡◌, sym, ap, ◌∙◌}
 use mathlib.Core.List.{List, foldr}
 use native.Mathlib.Omega.{arith}
 use lib.ListN.{length}
-use Rattle.attempt.specs.declared.Outcome.{Outcome}
+use Rattle.attempt.specs.Outcome.{Outcome}
 use Rattle.deck.specs.Ranges.{deck_refusal_of}
 use Rattle.deck.specs.Sections.{words_part, samples_part}
 use Rattle.engine.specs.Host.{Hosted, host_of}

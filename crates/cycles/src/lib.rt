@@ -7,7 +7,7 @@ ghost use Rattle.cycles.specs.Cycles.{operand_of};
 use alu::Kind;
 
 // What a cycle takes for an operand: Ra, Rb, or a byte of a number, its low byte in a low cycle.
-#[derive(Clone, Copy)]
+#[derive(Clone, Copy, Debug, PartialEq, Eq)]
 pub enum Operand {
     A,
     B,
@@ -15,7 +15,7 @@ pub enum Operand {
 }
 
 // What an instruction's cycles do: the kind, Ra's side and Rb's side, the first carry in, and whether Ra is written.
-#[derive(Clone, Copy)]
+#[derive(Clone, Copy, Debug, PartialEq, Eq)]
 pub struct Plan {
     pub kind: Kind,
     pub p: Operand,
@@ -25,7 +25,7 @@ pub struct Plan {
 }
 
 // The designators of one cycle.
-#[derive(Clone, Copy)]
+#[derive(Clone, Copy, Debug, PartialEq, Eq)]
 pub struct Designators {
     pub a: u8,
     pub b: u8,
@@ -38,11 +38,7 @@ pub fn operand_of(o: Operand, ra: u8, rb: u8, high: bool) -> u8
     match o {
         Operand::A => ra,
         Operand::B => rb,
-        Operand::Number(n) => {
-            if high {
-                return (n / 256) as u8;
-            }
-            (n % 256) as u8
-        }
+        Operand::Number(n) if high => (n / 256) as u8,
+        Operand::Number(n) => (n % 256) as u8,
     }
 }

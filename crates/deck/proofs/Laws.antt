@@ -3,7 +3,6 @@ use mathlib.Core.Path.{◌≡◌, refl, sym, ap, ◌∙◌}
 use mathlib.Core.Bool.{Bool, true, false, ◌&&◌, and-eq-true_iff}
 use mathlib.Core.List.{List, [], ◌++◌, append-nil}
 use Prim.Native.Nat.{ℕ, ◌+◌, ◌*◌, ◌/◌, ◌<◌, ◌≤◌}
-use native.Mathlib.Nat.{mul-le-mul}
 use native.Mathlib.Omega.{arith}
 use borrow.Author.Tests.{leb-true, ltb-true, eqb-true, le-leb, eq-eqb}
 use lib.Dec.{eqb, leb, ltb}
@@ -49,10 +48,6 @@ fits s h =
     let samples = section-end-ge s (layout_of s).state state_bytes in
     let past = section-end-ge s (layout_of s).samples 4 in
     omega arith
-
--- elements of at most a state's bytes, as many as a count can say
-pub product_le : (size count : ℕ) → size ≤ state_bytes → count ≤ 65535 → size * count ≤ state_bytes * 65535
-product_le size count a b = mul-le-mul a b
 
 -- ---- the parts of a whole deck
 -- a section has as many elements as its count says

@@ -23,48 +23,37 @@ fn line(rt: &impl Print, deck: &[u8], marking: u32) -> io::Result<()> {
         return println!(rt);
     }
     let (lc, flags) = match answer {
-        1..=4 | 24 => lc_and_flags(deck::state(deck, deck::sections(deck))),
+        1..=4 | 24 => lc_and_flags(deck::sections(deck).state),
         _ => lc_and_flags(&state),
     };
     println!(rt; " {lc} {flags}")
 }
 
-// What is no decimal number of up to nine digits after its zeros; no chip has it as its marking.
-const NONE: u32 = 1_000_000_000;
-
-// A number and one digit more; what is no number stays none.
-fn more(n: u32, c: u8) -> u32 {
-    if 99_999_999 < n {
-        return NONE;
-    }
-    match c {
-        b'0'..=b'9' => 10 * n + (c - b'0') as u32,
-        _ => NONE,
-    }
+// Digits alone; a word without digits comes to 0, which is no marking either.
+fn decimal(word: &[u8]) -> Option<u32> {
+    word.iter().try_fold(0u32, |n, c| {
+        let digit = char::from(*c).to_digit(10)?;
+        n.checked_mul(10)?.checked_add(digit)
+    })
 }
 
-// A word without digits comes to 0, which is no marking either.
-fn decimal(word: &[u8]) -> u32 {
-    word.iter().fold(0, |n, c| more(n, *c))
-}
-
-// What the arguments name; a word that is longer than its place is read as one without digits.
-fn marking(rt: &impl Env) -> u32 {
-    let has_more = !matches!(rt.arg(2, &mut []), Err(FillError::NotPresent));
-    if has_more {
-        return NONE;
+// What the arguments name; a word that is longer than its place names nothing.
+fn marking(rt: &impl Env) -> Option<u32> {
+    if !matches!(rt.arg(2, &mut []), Err(FillError::NotPresent)) {
+        return None;
     }
     let mut word = [0u8; 10];
     match rt.arg(1, &mut word) {
         Ok(n) => decimal(&word[..n]),
-        Err(FillError::TooLong) => decimal(b""),
-        Err(FillError::NotPresent) => 1661,
+        Err(FillError::TooLong) => None,
+        Err(FillError::NotPresent) => Some(1661),
     }
 }
 
 // One byte more than the longest deck, so that a longer one is seen to be longer. An input that cannot be read is an empty one.
+// No chip has 0 as its marking.
 fn main(rt: HostRuntime) -> io::Result<()> {
     let mut buffer = [0u8; 65_537];
     let n = input::read_full(&mut rt.stdin(), &mut buffer).unwrap_or(0);
-    line(&rt, &buffer[..n], marking(&rt))
+    line(&rt, &buffer[..n], marking(&rt).unwrap_or(0))
 }

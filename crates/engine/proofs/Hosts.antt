@@ -8,11 +8,8 @@ use lib.ListN.{length}
 use borrow.Author.Tests.{eq-eqb, ne_eqb}
 use Rattle.attempt.proofs.Lent.{attempt-lent}
 use Rattle.code.specs.Entries.{entries}
-use Rattle.deck.specs.declared.Layout.{Layout}
-use Rattle.deck.specs.Layouts.{between}
-use Rattle.deck.specs.Sections.{layout_of, words_part, rows_part, state_part, samples_part}
+use Rattle.deck.specs.Sections.{words_part, rows_part, state_part, samples_part}
 use Rattle.deck.specs.Ranges.{deck_refusal_of}
-use Rattle.deck.proofs.Layouts.{sections-by-layout}
 use Rattle.deck.proofs.Laws.{accepted, rows-in-range, samples-few}
 use Rattle.rows.specs.Section.{rows_of}
 use Rattle.rows.specs.Packing.{packed_rows}
@@ -33,14 +30,6 @@ module _ (deck : List ℕ) (requests buffer marking : ℕ) (h : deck_refusal_of 
   places =
       let a = accepted deck requests buffer marking h in
       (samples-few (samples_part deck) a.samples, omega (arith, a.places))
-
-  -- the sections by the deck's layout
-  pub parts : (l : Layout) → l ≡ layout_of deck
-      → (between deck 0 l.rows ≡ words_part deck)
-      × (between deck l.rows l.state ≡ rows_part deck)
-      × (between deck l.state l.samples ≡ state_part deck)
-      × (between deck l.samples l.end ≡ samples_part deck)
-  parts l e = rw e (sections-by-layout deck (accepted deck requests buffer marking h).whole)
 
   -- the table's rows are those of the section, packed
   pub loads : lent_rows (rows_part deck) ≡ packed_rows (rows_of (rows_part deck) (length (rows_part deck) / 16))

@@ -1,18 +1,18 @@
 -- Laws of the code's loop over the tables that are lent: what is left to run gives the whole run, one attempt after the other; and by THE table and rows in
 -- range it is the run of 01. Assumes nothing.
-use Prim.Native.Nat.{ℕ, suc, ◌+◌, ◌-◌, ◌*◌, ◌<◌, ◌≤◌, zero-le}
+use Prim.Native.Nat.{ℕ, suc, ◌+◌, ◌-◌, ◌*◌, ◌<◌, ◌≤◌}
 use mathlib.Core.Path.{◌≡◌, refl, ap, sym, ◌∙◌}
-use mathlib.Core.Bool.{Bool, true, false, ◌&&◌, and-eq-true_iff}
+use mathlib.Core.Bool.{Bool, true, false}
 use mathlib.Core.List.{List, [], ◌∷◌}
 use native.Mathlib.Omega.{arith}
 use native.Mathlib.Numerals.{add-one}
-use lib.Dec.{eqb, ltb}
-use lib.ListN.{length, take}
-use borrow.Author.Tests.{eq-eqb, ne_eqb, eqb-true, eqb-false, ltb-true, ltb-false}
+use lib.Dec.{eqb}
+use lib.ListN.{take}
+use borrow.Author.Tests.{eq-eqb, ne_eqb, eqb-true}
 use Rattle.choose.specs.Ranged.{pick}
 use Rattle.attempt.specs.Attempt.{attempt_of}
 use Rattle.attempt.specs.Lent.{attempt_by, inputs_by}
-use Rattle.attempt.specs.declared.Outcome.{Outcome}
+use Rattle.attempt.specs.Outcome.{Outcome}
 use Rattle.attempt.proofs.Lent.{refused-keeps}
 use Rattle.deck.specs.Elements.{sample_at}
 use Rattle.rows.specs.Packing.{scan_in}
@@ -26,8 +26,7 @@ use Rattle.state.specs.File.{Leaves}
 use Rattle.state.specs.declared.Core.{Core}
 use Rattle.state.specs.declared.Sample.{Sample}
 use Rattle.engine.specs.Run.{World, world, put4_of, stepped_of, stopped_of, run_from, samples_from}
-use Rattle.engine.specs.RunEnds.{run_end, world_of, going_of, unseen, lent_rows, inputs_for, after_of, next_by, run_by}
-use Rattle.engine.specs.declared.RunEnd.{RunEnd}
+use Rattle.engine.specs.RunEnds.{unseen, lent_rows, inputs_for, after_of, next_by, run_by}
 
 -- the samples that are left, before and after one of them
 pub samples-step : (s : List ℕ) (i n : ℕ) → i < n → samples_from s i (n - i) ≡ sample_at s i ∷ samples_from s (i + 1) (n - (i + 1))
@@ -46,33 +45,7 @@ samples-end s i n l =
 abbrev pub left_by : List ℕ → List ℕ → List Packed → List Sample → World → World
 left_by codes ws ps ss w = pick (eqb w.answer 0) (run_by codes ws ps ss w) w
 
--- where a test holds, the one or the other
-pub where-true : {A : Type 0} (t : Bool) (x y w : A) → (t ≡ true → x ≡ y) → pick t x w ≡ pick t y w
-where-true true x y w same = same refl
-where-true false x y w same = refl
-
-pub at_most : (t : Bool) (x y : ℕ) → (t ≡ true → x ≤ y) → pick t x 0 ≤ y
-at_most true x y most = most refl
-at_most false x y most = zero-le
-
--- where two tests do not both hold, and the second one's failing makes the choices alike
-pub over : {A : Type 0} (t u : Bool) (x w : A) → (t && u) ≡ false → (u ≡ false → x ≡ w) → pick t x w ≡ w
-over true u x w e same = same e
-over false u x w e same = refl
-
 module _ (codes ws : List ℕ) (o : Outputs) (s : Sample) (w : World) where
-  after : (t : Bool) (e : Leaves Outcome) → t ≡ eqb e.back.refusal 0 → let next = pick t (stepped_of w e) (stopped_of w e.back.refusal) in
-      (next.answer ≡ 0 → next.attempts ≡ w.attempts + 1) × (next.attempts ≤ w.attempts + 1)
-  unfolding stepped_of stopped_of
-  after true e told = ((λ z. refl), omega arith)
-  after false e told = ((λ z. absurd (eqb-false e.back.refusal 0 (sym told) z)), omega arith)
-
-  -- an attempt that is not refused counts
-  next-counts : ((next_by codes ws o s w).answer ≡ 0 → (next_by codes ws o s w).attempts ≡ w.attempts + 1)
-      × ((next_by codes ws o s w).attempts ≤ w.attempts + 1)
-  unfolding next_by
-  next-counts = after _ (attempt_by codes ws o w.file w.core s) refl
-
   module _ (e : Leaves Outcome) (made : e ≡ attempt_by codes ws o w.file w.core s) where
     pub next-steps : e.back.refusal ≡ 0
         → world e.file e.back.core 0 (w.attempts + 1) (w.microcycles + e.back.cycles) (put4_of w.buffer (w.attempts * 4) e.back.request)
@@ -109,105 +82,62 @@ pub unlooked : (m : ℕ) (ps : List Packed) (ws : List ℕ) (k : Core) (s : Samp
 unfolding inputs_for
 unlooked m ps ws k s = unlooked-by (eqb m 0) m ps (inputs_by ws k s) (eqb-true m 0)
 
--- how many attempts can still be made
-abbrev pub measure : ℕ → RunEnd → ℕ
-measure n at = pick (eqb at.answer 0) (n - at.attempts) 0
-
-pub going : (n : ℕ) (at : RunEnd) → going_of at n ≡ true → (eqb at.answer 0 ≡ true) × (ltb at.attempts n ≡ true)
-going n at g = (and-eq-true_iff (eqb at.answer 0) (ltb at.attempts n)).0 g
-
--- the loop goes on only while a sample is left
-pub goes : (n : ℕ) (at : RunEnd) → going_of at n ≡ true → at.attempts < n
-goes n at g = ltb-true at.attempts n (going n at g).1
+refused : (number : ℕ) → (number ≡ 0 → ⊥) → (x w : World) → pick (eqb number 0) x w ≡ w
+refused number h x w = rw (ne_eqb number 0 h)
 
 module _ (codes ws part samples : List ℕ) (n : ℕ) (start : World) where
   abbrev pub whole : World
   whole = run_by codes ws (lent_rows part) (samples_from samples 0 n) start
 
-  -- from i attempts on
-  abbrev left : ℕ → World → World
-  left i w = left_by codes ws (lent_rows part) (samples_from samples i (n - i)) w
+  -- what is known after i attempts: what is left to run from there gives the whole run
+  pub record Good (i : ℕ) (core : Core) (microcycles : ℕ) (file requests : List ℕ) : Type 0 where
+    pub counted : microcycles ≤ 255 * i
+    pub same : run_by codes ws (lent_rows part) (samples_from samples i (n - i)) (world file core 0 i microcycles requests) ≡ whole
 
-  -- what is known of what the loop has: what is left to run from there gives the whole run
-  pub record Good (at : RunEnd) (file requests : List ℕ) : Type 0 where
-    pub few : at.attempts ≤ n
-    pub counted : at.microcycles ≤ 255 * at.attempts
-    pub long : length requests ≡ length start.buffer
-    pub same : left at.attempts (world_of at file requests) ≡ whole
-
-  module _ (at : RunEnd) (file requests : List ℕ) (good : Good at file requests) where
-    abbrev i : ℕ
-    i = at.attempts
-
+  module _ (i : ℕ) (core : Core) (microcycles : ℕ) (file requests : List ℕ) (good : Good i core microcycles file requests) where
     abbrev w : World
-    w = world_of at file requests
+    w = world file core 0 i microcycles requests
 
-    -- a refusal leaves nothing to run, and neither does the last sample
-    pub ends : going_of at n ≡ false → w ≡ whole
-    ends g =
-        let none : ltb i n ≡ false → run_by codes ws (lent_rows part) (samples_from samples i (n - i)) w ≡ w =
-        λ h. ap (λ (ss : List Sample). run_by codes ws (lent_rows part) ss w) (samples-end samples i n (ltb-false i n h))
-        ∙ run_none codes ws (lent_rows part) w in
-        sym (over (eqb at.answer 0) (ltb i n) _ w g none) ∙ good.same
+    -- after the last one
+    pub ends : i ≡ n → world file core 0 n microcycles requests ≡ whole
+    ends l =
+        ap (λ (j : ℕ). world file core 0 j microcycles requests) (sym l)
+        ∙ sym
+        (ap (λ (ss : List Sample). run_by codes ws (lent_rows part) ss w) (samples-end samples i n (omega arith)) ∙ run_none codes ws (lent_rows part) w)
+        ∙ good.same
 
-    -- one more attempt, which leaves r
-    module _ (r : RunEnd) (file' requests' : List ℕ) (seen : Inputs) (o : Outputs) (g : going_of at n ≡ true)
-        (ei : seen ≡ inputs_for (whole_rows part) ws at.core (sample_at samples i)) (eo : o ≡ scan_in (lent_rows part) seen)
-        (counted : r.microcycles ≤ 255 * r.attempts)
-        (next : world_of r file' requests' ≡ next_by codes ws o (sample_at samples i) w)
-        (long : length requests' ≡ length requests) where
-      abbrev sample : Sample
-      sample = sample_at samples i
+    -- one more attempt, by what the rows put out for what was seen
+    module _ (l : i < n) (seen : Inputs) (o : Outputs) (ei : seen ≡ inputs_for (whole_rows part) ws core (sample_at samples i))
+        (eo : o ≡ scan_in (lent_rows part) seen) (e : Leaves Outcome)
+        (made : e ≡ attempt_by codes ws o file core (sample_at samples i)) where
+      abbrev rest : List Sample
+      rest = samples_from samples (i + 1) (n - (i + 1))
 
-      abbrev w' : World
-      w' = world_of r file' requests'
+      put-out : o ≡ scan_in (lent_rows part) (inputs_by ws core (sample_at samples i))
+      put-out = eo ∙ ap (scan_in (lent_rows part)) ei ∙ unlooked (whole_rows part) (table_of part) ws core (sample_at samples i)
 
-      counts : (r.answer ≡ 0 → r.attempts ≡ i + 1) × (r.attempts ≤ i + 1)
-      counts =
-          let c = next-counts codes ws o sample w in
-          let same = ap (λ (x : World). x.attempts) next in
-          ((λ z. same ∙ c.0 (sym (ap (λ (x : World). x.answer) next) ∙ z)), omega (arith, same, c.1))
-
-      put-out : o ≡ scan_in (lent_rows part) (inputs_by ws at.core sample)
-      put-out = eo ∙ ap (scan_in (lent_rows part)) ei ∙ unlooked (whole_rows part) (table_of part) ws at.core sample
-
-      begun : left i w ≡ left (i + 1) w'
+      begun : whole ≡ left_by codes ws (lent_rows part) rest (next_by codes ws o (sample_at samples i) w)
       begun =
-          ap (λ (t : Bool). pick t (run_by codes ws (lent_rows part) (samples_from samples i (n - i)) w) w) (going n at g).0
-          ∙ ap (λ (ss : List Sample). run_by codes ws (lent_rows part) ss w) (samples-step samples i n (goes n at g))
-          ∙ run-cons codes ws (lent_rows part) sample (samples_from samples (i + 1) (n - (i + 1))) w
-          ∙ ap (λ (x : Outputs). left (i + 1) (next_by codes ws x sample w)) (sym put-out)
-          ∙ ap (left (i + 1)) (sym next)
+          sym good.same
+          ∙ ap (λ (ss : List Sample). run_by codes ws (lent_rows part) ss w) (samples-step samples i n l)
+          ∙ run-cons codes ws (lent_rows part) (sample_at samples i) rest w
+          ∙ ap (λ (x : Outputs). left_by codes ws (lent_rows part) rest (next_by codes ws x (sample_at samples i) w)) (sym put-out)
 
-      moved : left r.attempts w' ≡ left i w
-      moved =
-          where-true (eqb r.answer 0) _ _ w'
-          (λ z. ap (λ (j : ℕ). run_by codes ws (lent_rows part) (samples_from samples j (n - j)) w') (counts.0 (eqb-true r.answer 0 z)))
-          ∙ sym begun
-
-      pub turned : Good r file' requests'
-      turned = record {
-        few = omega (arith, counts.1, goes n at g);
-        counted = counted;
-        long = long ∙ good.long;
-        same = moved ∙ good.same;
+      -- it counts
+      pub turned : e.back.refusal ≡ 0 → e.back.cycles < 256
+          → Good (i + 1) e.back.core (microcycles + e.back.cycles) e.file (put4_of requests (i * 4) e.back.request)
+      turned h few = record {
+        counted = omega (arith, good.counted, few);
+        same = ap (left_by codes ws (lent_rows part) rest) (next-steps codes ws o (sample_at samples i) w e made h) ∙ sym begun;
       }
 
-      pub less : measure n r < measure n at
-      less =
-          let now : measure n at ≡ n - i = ap (λ (t : Bool). pick t (n - i) 0) (going n at g).0 in
-          let then : measure n r ≤ n - (i + 1) =
-          at_most (eqb r.answer 0) (n - r.attempts) (n - (i + 1)) (λ z. omega (arith, counts.0 (eqb-true r.answer 0 z))) in
-          omega (arith, now, then, goes n at g)
-
-pub begins : (codes ws part samples : List ℕ) (n : ℕ) (file : List ℕ) (first : Core) (requests : List ℕ)
-    → Good codes ws part samples n (world file first 0 0 0 requests) (run_end first 0 0 0) file requests
-begins codes ws part samples n file first requests = record {
-  few = zero-le;
-  counted = zero-le;
-  long = refl;
-  same = ap (λ (k : ℕ). run_by codes ws (lent_rows part) (samples_from samples 0 k) (world file first 0 0 0 requests)) (omega arith);
-}
+      -- it is refused
+      pub stopped : (e.back.refusal ≡ 0 → ⊥) → world e.file core e.back.refusal i microcycles requests ≡ whole
+      stopped h =
+          let next = next-stops codes ws o (sample_at samples i) w e made h in
+          sym (refused e.back.refusal h _ _)
+          ∙ ap (left_by codes ws (lent_rows part) rest) next
+          ∙ sym begun
 
 -- where each attempt is the one of 01, so is the run
 module _ (codes ws : List ℕ) (ps : List Packed) (rs : List Row)

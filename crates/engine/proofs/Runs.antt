@@ -10,7 +10,7 @@ use Rattle.rows.specs.declared.Row.{Row}
 use Rattle.state.specs.declared.Sample.{Sample}
 use Rattle.engine.specs.Run.{World, stepped_of, run_from, samples_from}
 use Rattle.state.specs.File.{Leaves}
-use Rattle.attempt.specs.declared.Outcome.{Outcome}
+use Rattle.attempt.specs.Outcome.{Outcome}
 
 pub samples-length : (s : List ℕ) (n i : ℕ) → length (samples_from s i n) ≡ n
 unfolding samples_from

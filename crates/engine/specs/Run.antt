@@ -7,7 +7,7 @@ use Rattle.rows.specs.declared.Row.{Row}
 use Rattle.state.specs.declared.Core.{Core}
 use Rattle.state.specs.declared.Sample.{Sample}
 use Rattle.state.specs.File.{Leaves}
-use Rattle.attempt.specs.declared.Outcome.{Outcome}
+use Rattle.attempt.specs.Outcome.{Outcome}
 
 -- all that a run has so far: registers and the rest of the state, the answer, the counts, and the request buffer's bytes
 pub record World : Type 0 where

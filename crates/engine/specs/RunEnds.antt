@@ -1,9 +1,10 @@
 -- What the code's loop has so far, as a world of the run, and the loop by the tables that are lent. This is the code's way only; `run-as` says that by THE
 -- table and rows in range it is the run of 01.
-use Rattle.std.specs.Prelude.{ℕ, Bool, ◌&&◌, List, [], ◌∷◌, eqb, ltb, take}
+use Rattle.std.specs.Prelude.{ℕ, List, [], ◌∷◌, eqb, take}
 use Rattle.choose.specs.Ranged.{pick}
 use Rattle.attempt.specs.Lent.{attempt_by, inputs_by}
-use Rattle.attempt.specs.declared.Outcome.{Outcome}
+use Rattle.attempt.specs.Outcome.{Outcome}
+use Rattle.refusals.specs.Refusals.{answer_of}
 use Rattle.rows.specs.Packing.{scan_in}
 use Rattle.rows.specs.Table.{whole_rows, table_of}
 use Rattle.rows.specs.declared.Inputs.{Inputs}
@@ -15,16 +16,9 @@ use Rattle.state.specs.declared.Sample.{Sample}
 use Rattle.engine.specs.declared.RunEnd.{RunEnd}
 use Rattle.engine.specs.Run.{World, world, stepped_of, stopped_of}
 
-abbrev pub run_end : Core → ℕ → ℕ → ℕ → RunEnd
-run_end k answer attempts microcycles = record { core = k; answer = answer; attempts = attempts; microcycles = microcycles }
-
--- what a run has so far, with the registers and the places
+-- what a run leaves, with the registers and the places
 abbrev pub world_of : RunEnd → List ℕ → List ℕ → World
-world_of r xs b = world xs r.core r.answer r.attempts r.microcycles b
-
--- no attempt was refused, and of n samples one is left
-abbrev pub going_of : RunEnd → ℕ → Bool
-going_of r n = eqb r.answer 0 && ltb r.attempts n
+world_of r xs b = world xs r.core (answer_of r.answer) r.attempts r.microcycles b
 
 -- the rows of the table that are lent
 abbrev pub lent_rows : List ℕ → List Packed

@@ -1,8 +1,8 @@
 // What each executed instruction does to the registers and the flags.
-#![tactic(auto)]
+#![tactic(auto, unfolding(alu::specs::Cycle::cycle_of, choose::specs::Ranged::ranged, cycles::specs::Cycles::one_cycle_of, cycles::specs::Cycles::operand_of, cycles::specs::Cycles::step_of, cycles::specs::Cycles::two_cycles_of, plan::specs::Plan::literal_plan_of, state::specs::File::register_of, state::specs::File::written_of, crate::specs::Execute::access_of, crate::specs::Execute::codes70_to77_of, crate::specs::Execute::compared_of, crate::specs::Execute::conditioned_of, crate::specs::Execute::copied_of, crate::specs::Execute::input_of, crate::specs::Execute::literal_of, crate::specs::Execute::loaded_of, crate::specs::Execute::selected_of, crate::specs::Execute::stepped_by_of, crate::specs::Execute::upper_of))]
 
-ghost use Rattle.std.specs.Prelude.{◌≡◌, ◌<◌, ltb, set};
-ghost use Rattle.alu.specs.Marks.{after_byte_of, after_word_of};
+ghost use Rattle.std.specs.Prelude.{◌≡◌, ◌<◌, ltb, set, unwrap_or};
+ghost use Rattle.alu.specs.Marks.{after_byte_of};
 ghost use Rattle.choose.specs.Ranged.{pick};
 ghost use Rattle.cycles.specs.Cycles.{step_of};
 ghost use Rattle.execute.specs.Execute.{designators, literal_of, loaded_of, stepped_by_of, copied_of, codes70_to77_of, operation_of, conditioned_of, upper_of, selected_of, input_of, gain_of, access_of};
@@ -20,23 +20,7 @@ fn stored(file: &mut [u8; 26], i: usize, f: Flags, y: Cycle, odd: bool) -> Flags
     alu::after_byte(f, y, odd)
 }
 
-fn stored_second(
-    file: &mut [u8; 26],
-    i: usize,
-    f: Flags,
-    first: Cycle,
-    y: Cycle,
-    odd: bool,
-) -> Flags
-    requires { i < 26 }
-    ensures { leaves file.new result ≡ leaves (set file.old i y.result) (after_word_of f first y odd) }
-{
-    file[i] = y.result;
-    alu::after_word(f, first, y, odd)
-}
-
 // 20-6F: AL CL NL TL LL. CL is a subtract that writes no register and leaves C4 and C8.
-#[tactic(auto, unfolding(crate::specs::Execute::literal_of, cycles::specs::Cycles::one_cycle_of, cycles::specs::Cycles::step_of, cycles::specs::Cycles::operand_of, state::specs::File::register_of, state::specs::File::written_of, plan::specs::Plan::literal_plan_of, alu::specs::Cycle::cycle_of, crate::specs::Execute::compared_of, choose::specs::Ranged::ranged))]
 pub fn literal(file: &mut [u8; 26], g: u8, f: Flags, code: u8, value: u8, a: u8) -> Flags
     ensures { leaves file.new result ≡ literal_of file.old g f code value a }
 {
@@ -54,35 +38,21 @@ pub fn literal(file: &mut [u8; 26], g: u8, f: Flags, code: u8, value: u8, a: u8)
     }
 }
 
-fn either(t: bool, x: bool, y: bool) -> bool
-    ensures { result ≡ pick t x y }
-{
-    if t {
-        return x;
-    }
-    y
-}
-
 // LCF: N Z V C from bits 7-4 of Ra, where b's bits 3-0 are 1.
-#[tactic(auto, unfolding(crate::specs::Execute::loaded_of))]
 fn loaded(f: Flags, ra: u8, b: u8) -> Flags
     ensures { result ≡ loaded_of f ra b }
 {
     let t = state::flags_in(ra);
     Flags {
-        n: either(b / 8 % 2 == 1, t.n, f.n),
-        z: either(b / 4 % 2 == 1, t.z, f.z),
-        v: either(b / 2 % 2 == 1, t.v, f.v),
-        c: either(b % 2 == 1, t.c, f.c),
-        nb: f.nb,
-        zb: f.zb,
-        c4: f.c4,
-        c8: f.c8,
+        n: if b / 8 % 2 == 1 { t.n } else { f.n },
+        z: if b / 4 % 2 == 1 { t.z } else { f.z },
+        v: if b / 2 % 2 == 1 { t.v } else { f.v },
+        c: if b % 2 == 1 { t.c } else { f.c },
+        ..f
     }
 }
 
 // CIB and CDB: C8 is added, to 0 or to 255.
-#[tactic(auto, unfolding(crate::specs::Execute::stepped_by_of, cycles::specs::Cycles::one_cycle_of, cycles::specs::Cycles::step_of, cycles::specs::Cycles::operand_of, alu::specs::Cycle::cycle_of, state::specs::File::register_of, state::specs::File::written_of))]
 fn stepped_by(file: &mut [u8; 26], g: u8, f: Flags, a: u8, by: u8) -> Flags
     ensures { leaves file.new result ≡ stepped_by_of file.old g f a by }
 {
@@ -91,7 +61,6 @@ fn stepped_by(file: &mut [u8; 26], g: u8, f: Flags, a: u8, by: u8) -> Flags
     stored(file, i, f, y, false)
 }
 
-#[tactic(auto, unfolding(crate::specs::Execute::copied_of))]
 fn copied(file: &mut [u8; 26], g: u8, f: Flags, a: u8) -> Flags
     ensures { leaves file.new result ≡ copied_of file.old g f a }
 {
@@ -101,103 +70,98 @@ fn copied(file: &mut [u8; 26], g: u8, f: Flags, a: u8) -> Flags
 }
 
 // 70-77: CCF, LCF, CIB and CDB; the others leave registers and flags.
-#[tactic(auto, unfolding(crate::specs::Execute::codes70_to77_of, choose::specs::Ranged::ranged))]
-pub fn codes_70_to_77(file: &mut [u8; 26], g: u8, f: Flags, code: u8, b: u8, a: u8) -> Flags
-    ensures { leaves file.new result ≡ codes70_to77_of file.old g f code b a }
+pub fn codes_70_to_77(file: &mut [u8; 26], g: u8, f: Flags, code: u8, at: Designators) -> Flags
+    ensures { leaves file.new result ≡ codes70_to77_of file.old g f code at.b at.a }
 {
     match code {
         0x00..=0x71 => f,
-        0x72 => copied(file, g, f, a),
+        0x72 => copied(file, g, f, at.a),
         0x73 => {
-            let ra = state::register(file, g, a);
-            loaded(f, ra, b)
+            let ra = state::register(file, g, at.a);
+            loaded(f, ra, at.b)
         }
         0x74..=0x75 => f,
-        0x76 => stepped_by(file, g, f, a, 0),
-        _ => stepped_by(file, g, f, a, 255),
+        0x76 => stepped_by(file, g, f, at.a, 0),
+        _ => stepped_by(file, g, f, at.a, 255),
     }
 }
 
-// One cycle of 80-DF. The plan is asked for here, where it is used: the compiler makes one jump of its line and what the cycle then does.
-#[tactic(auto, unfolding(cycles::specs::Cycles::step_of, state::specs::File::register_of, state::specs::File::written_of))]
+// One cycle of 80-DF, the first with the plan's own carry. The plan is asked for here, where it is used: the compiler makes one jump of its line and what the cycle then does.
 fn step(
     file: &mut [u8; 26],
     g: u8,
     f: Flags,
     code: u8,
     at: Designators,
-    first: bool,
-    carry: bool,
+    carry: Option<bool>,
     high: bool,
 ) -> Cycle
-    ensures { leaves file.new result ≡ step_of file.old g f (plan_of code f) at (pick first (plan_of code f).carry carry) high }
+    ensures { leaves file.new result ≡ step_of file.old g f (plan_of code f) at (unwrap_or carry (plan_of code f).carry) high }
 {
     let i = state::slot(g, at.a);
     let j = state::slot(g, at.b);
     let ra = file[i];
     let rb = file[j];
     let plan = plan::plan(code, f);
-    let one = plan.p;
-    let other = plan.q;
-    let kind = plan.kind;
-    let p = cycles::operand_of(one, ra, rb, high);
-    let q = cycles::operand_of(other, ra, rb, high);
-    let y = alu::byte_cycle(kind, p, q, either(first, plan.carry, carry), f);
+    let p = cycles::operand_of(plan.p, ra, rb, high);
+    let q = cycles::operand_of(plan.q, ra, rb, high);
+    let y = alu::byte_cycle(plan.kind, p, q, carry.unwrap_or(plan.carry), f);
     if plan.stores {
         file[i] = y.result;
-        return y;
     }
     y
 }
 
 // The designators of a cycle: those of the word, or of the pairs' high bytes.
-fn designators(a: u8, b: u8, high: bool) -> Designators
-    ensures { result ≡ pick high (designators (high_of a) (high_of b)) (designators a b) }
+fn designators(at: Designators, high: bool) -> Designators
+    ensures { result ≡ pick high (designators (high_of at.a) (high_of at.b)) at }
 {
     if high {
-        let high_a = state::high(a);
-        let high_b = state::high(b);
-        return Designators {
-            a: high_a,
-            b: high_b,
-        };
+        Designators {
+            a: state::high(at.a),
+            b: state::high(at.b),
+        }
+    } else {
+        at
     }
-    Designators { a, b }
 }
 
 // 80-DF: one cycle, or two on the pairs, those of right shifts from the high byte.
-fn operation(file: &mut [u8; 26], g: u8, f: Flags, code: u8, b: u8, a: u8) -> Flags
-    ensures { leaves file.new result ≡ operation_of file.old g f code b a }
+fn operation(file: &mut [u8; 26], g: u8, f: Flags, code: u8, at: Designators) -> Flags
+    ensures { leaves file.new result ≡ operation_of file.old g f code at.b at.a }
 {
     let n = 1 + code / 2 % 2;
     let mut high = (0xD8 <= code) & (n == 2);
-    let mut carry = false;
+    let mut carry = None;
     let mut zero = true;
     let mut y = alu::kept(0, f);
-    let mut k = 0;
-    while k < n {
-        let at = designators(a, b, high);
-        y = step(file, g, f, code, at, k == 0, carry, high);
-        carry = y.c8;
-        zero = zero & (y.result == 0);
+    for _ in 0..n {
+        y = step(file, g, f, code, designators(at, high), carry, high);
+        carry = Some(y.c8);
+        zero &= y.result == 0;
         high = !high;
-        k = k + 1;
     }
     alu::after(f, y, zero, code % 2 == 1)
 }
 
-#[tactic(auto, unfolding(crate::specs::Execute::conditioned_of))]
-pub fn conditioned(file: &mut [u8; 26], g: u8, f: Flags, ics: bool, code: u8, b: u8, a: u8) -> Flags
-    ensures { leaves file.new result ≡ conditioned_of file.old g f ics code b a }
+pub fn conditioned(
+    file: &mut [u8; 26],
+    g: u8,
+    f: Flags,
+    ics: bool,
+    code: u8,
+    at: Designators,
+) -> Flags
+    ensures { leaves file.new result ≡ conditioned_of file.old g f ics code at.b at.a }
 {
     if plan::condition_met(code, f.c, ics) {
-        return operation(file, g, f, code, b, a);
+        operation(file, g, f, code, at)
+    } else {
+        f
     }
-    f
 }
 
 // Which byte IB and ISB take, by b mod 4: the upper, the lower, the one that M bit 0 names, or the other one.
-#[tactic(auto, unfolding(crate::specs::Execute::upper_of, choose::specs::Ranged::ranged))]
 fn upper(m: u16, b: u8) -> bool
     ensures { result ≡ upper_of m b }
 {
@@ -209,18 +173,17 @@ fn upper(m: u16, b: u8) -> bool
     }
 }
 
-#[tactic(auto, unfolding(crate::specs::Execute::selected_of))]
 fn selected(dal: u16, m: u16, b: u8) -> u8
     ensures { result ≡ selected_of dal m b }
 {
     if upper(m, b) {
-        return (dal / 256) as u8;
+        (dal / 256) as u8
+    } else {
+        (dal % 256) as u8
     }
-    (dal % 256) as u8
 }
 
 // E0-E7: a byte into Ra, or a word into its pair.
-#[tactic(auto, unfolding(crate::specs::Execute::input_of, cycles::specs::Cycles::one_cycle_of, cycles::specs::Cycles::step_of, cycles::specs::Cycles::operand_of, alu::specs::Cycle::cycle_of, state::specs::File::register_of, state::specs::File::written_of, cycles::specs::Cycles::two_cycles_of))]
 pub fn input(
     file: &mut [u8; 26],
     g: u8,
@@ -228,53 +191,52 @@ pub fn input(
     code: u8,
     dal: u16,
     m: u16,
-    b: u8,
-    a: u8,
+    at: Designators,
 ) -> Flags
-    ensures { leaves file.new result ≡ input_of file.old g f code dal m b a }
+    ensures { leaves file.new result ≡ input_of file.old g f code dal m at.b at.a }
 {
     let odd = code % 2 == 1;
-    let i = state::slot(g, a);
+    let i = state::slot(g, at.a);
     if code / 2 % 2 == 0 {
-        return stored(file, i, f, alu::kept(selected(dal, m, b), f), odd);
+        return stored(file, i, f, alu::kept(selected(dal, m, at.b), f), odd);
     }
     let low = alu::kept((dal % 256) as u8, f);
     file[i] = low.result;
     let high = alu::kept((dal / 256) as u8, f);
-    stored_second(file, state::slot(g, state::high(a)), f, low, high, odd)
+    let j = state::slot(g, state::high(at.a));
+    file[j] = high.result;
+    alu::after_word(f, low, high, odd)
 }
 
 fn gain(code: u8) -> u8
     ensures { result ≡ gain_of code }
 {
-    if code / 4 % 2 == 0 {
-        return 1;
-    }
-    2
+    if code / 4 % 2 == 0 { 1 } else { 2 }
 }
 
 // F0-F7: Ra gains 1 or 2; the word codes add the carry to Rb.
-#[tactic(auto, unfolding(crate::specs::Execute::access_of, cycles::specs::Cycles::one_cycle_of, cycles::specs::Cycles::step_of, cycles::specs::Cycles::operand_of, alu::specs::Cycle::cycle_of, state::specs::File::register_of, state::specs::File::written_of, cycles::specs::Cycles::two_cycles_of))]
-fn gained(file: &mut [u8; 26], g: u8, f: Flags, code: u8, b: u8, a: u8) -> Flags
-    ensures { leaves file.new result ≡ access_of file.old g f code b a }
+fn gained(file: &mut [u8; 26], g: u8, f: Flags, code: u8, at: Designators) -> Flags
+    ensures { leaves file.new result ≡ access_of file.old g f code at.b at.a }
 {
-    let i = state::slot(g, a);
+    let i = state::slot(g, at.a);
     let low = alu::add(file[i], gain(code), false);
     file[i] = low.result;
     if code / 2 % 2 == 0 {
         return alu::after_byte(f, low, false);
     }
-    let j = state::slot(g, b);
+    let j = state::slot(g, at.b);
     let high = alu::add(file[j], 0, low.c8);
-    stored_second(file, j, f, low, high, false)
+    file[j] = high.result;
+    alu::after_word(f, low, high, false)
 }
 
 // F0-FF; F8-FF leave registers and flags.
-pub fn access(file: &mut [u8; 26], g: u8, f: Flags, code: u8, b: u8, a: u8) -> Flags
-    ensures { leaves file.new result ≡ pick (ltb code 0xF8) (access_of file.old g f code b a) (leaves file.old f) }
+pub fn access(file: &mut [u8; 26], g: u8, f: Flags, code: u8, at: Designators) -> Flags
+    ensures { leaves file.new result ≡ pick (ltb code 0xF8) (access_of file.old g f code at.b at.a) (leaves file.old f) }
 {
     if code < 0xF8 {
-        return gained(file, g, f, code, b, a);
+        gained(file, g, f, code, at)
+    } else {
+        f
     }
-    f
 }

@@ -1,7 +1,9 @@
 // What operands an instruction has in a listing, and which top byte a mnemonic names.
 #![tactic(auto)]
 
-ghost use Rattle.std.specs.Prelude.{◌≡◌};
+ghost use Rattle.std.specs.Prelude.{◌≡◌, ◌==◌, ◌<◌, SomeIff};
+ghost use Rattle.std.specs.List.{position};
+ghost use Rattle.names.specs.Mnemonics.{all_mnemonics};
 ghost use Rattle.forms.specs.Forms.{spare_of, register_form, form_in, form_of, limit_of, joined_of, first_of, second_of};
 ghost use Rattle.forms.specs.Named.{top_named, twinned, odd_of};
 
@@ -22,13 +24,20 @@ pub const RNI: u32 = 0x52_4E_49_20;
 pub struct Form {
     // How many digits the first has: 3 for 11 bits, 2 for 8, 1 for 4.
     pub first: u8,
-    // 1 where there is a second, of 4 bits; else 0.
+    // How many digits the second has: 1, or 0 where there is none.
     pub second: u8,
     // How many have to be there. One more is the don't-care operand.
     pub needed: u8,
     // Whether a stands before b.
     pub a_first: bool,
 }
+
+const NO_OPERANDS: Form = Form {
+    first: 0,
+    second: 0,
+    needed: 0,
+    a_first: false,
+};
 
 // The bits that the summary marks x.
 #[tactic(auto, unfolding(crate::specs::Forms::spare_of, choose::specs::Ranged::ranged))]
@@ -57,9 +66,7 @@ fn register_form(spare: u16) -> Form
     if spare == 0xFF {
         return Form {
             first: 2,
-            second: 0,
-            needed: 0,
-            a_first: false,
+            ..NO_OPERANDS
         };
     }
     Form {
@@ -74,29 +81,22 @@ fn form_in(class: Class, spare: u16) -> Form
     ensures { result ≡ form_in class spare }
 {
     match class {
-        Class::Unlisted => Form {
-            first: 0,
-            second: 0,
-            needed: 0,
-            a_first: false,
-        },
+        Class::Unlisted => NO_OPERANDS,
         Class::Jump => Form {
             first: 3,
-            second: 0,
             needed: bit_of(spare == 0),
-            a_first: false,
+            ..NO_OPERANDS
         },
         Class::Conditional => Form {
             first: 2,
-            second: 0,
             needed: 1,
-            a_first: false,
+            ..NO_OPERANDS
         },
         Class::Literal => Form {
             first: 2,
             second: 1,
             needed: 2,
-            a_first: false,
+            ..NO_OPERANDS
         },
         Class::Register => register_form(spare),
     }
@@ -128,12 +128,12 @@ pub fn joined(form: Form, first: u16, second: u16) -> u32
     ensures { result ≡ joined_of form first second }
 {
     if form.second == 0 {
-        return first as u32;
+        first as u32
+    } else if form.a_first {
+        second as u32 * 0x10 + first as u32
+    } else {
+        first as u32 * 0x10 + second as u32
     }
-    if form.a_first {
-        return second as u32 * 0x10 + first as u32;
-    }
-    first as u32 * 0x10 + second as u32
 }
 
 // The operands to type for a word's low bits.
@@ -142,12 +142,12 @@ pub fn first_of(form: Form, low: u32) -> u32
     ensures { result ≡ first_of form low }
 {
     if form.second == 0 {
-        return low;
+        low
+    } else if form.a_first {
+        low % 0x10
+    } else {
+        low / 0x10
     }
-    if form.a_first {
-        return low % 0x10;
-    }
-    low / 0x10
 }
 
 #[tactic(auto, unfolding(crate::specs::Forms::second_of))]
@@ -155,31 +155,32 @@ pub fn second_of(form: Form, low: u32) -> u32
     ensures { result ≡ second_of form low }
 {
     if form.second == 0 {
-        return 0;
+        0
+    } else if form.a_first {
+        low / 0x10
+    } else {
+        low % 0x10
     }
-    if form.a_first {
-        return low / 0x10;
-    }
-    low % 0x10
 }
 
-// The first top byte of a mnemonic; 0x100 where it is none.
+// Where a name first stands among the mnemonics.
+fn place_of(name: u32) -> Option<usize>
+    ensures { result ≡ position (λ mnemonic. mnemonic == name) all_mnemonics }
+{
+    let names = names::names();
+    names.iter().position(|mnemonic| *mnemonic == name)
+}
+
+// The first top byte of a mnemonic.
 #[tactic(auto, unfolding(crate::specs::Named::top_named))]
-pub fn top_named(name: u32) -> usize
-    ensures { result ≡ top_named name }
+pub fn top_named(name: u32) -> Option<u8>
+    ensures { SomeIff result (top_named name < 0x100) (top_named name) }
 {
     if name == BLANK {
-        return 0x100;
+        return None;
     }
-    let names = names::names();
-    let mut top = 0;
-    while top < 0x100 {
-        if names[top] == name {
-            return top;
-        }
-        top += 1;
-    }
-    top
+    let top = place_of(name)?;
+    Some(top as u8)
 }
 
 // Whether the code after this one has the same mnemonic, and is its odd twin.
@@ -187,13 +188,9 @@ pub fn top_named(name: u32) -> usize
 pub fn has_twin(top: u8) -> bool
     ensures { result ≡ twinned top }
 {
-    if top == 0xFF {
-        return false;
-    }
-    match code::class_of(top) {
-        Class::Register => names::mnemonic_of(top + 1) == names::mnemonic_of(top),
-        _ => false,
-    }
+    top < 0xFF
+        && matches!(code::class_of(top), Class::Register)
+        && names::mnemonic_of(top + 1) == names::mnemonic_of(top)
 }
 
 // Whether a code is the odd one of a pair.
@@ -201,8 +198,5 @@ pub fn has_twin(top: u8) -> bool
 pub fn is_odd(code: u8) -> bool
     ensures { result ≡ odd_of code }
 {
-    if code % 2 == 0 {
-        return false;
-    }
-    has_twin(code - 1)
+    code % 2 == 1 && has_twin(code - 1)
 }

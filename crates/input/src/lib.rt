@@ -8,7 +8,8 @@ ghost use Rattle.std.specs.Io.KnownBytes.{Consumes, Keeps};
 use std::io::{self, Read};
 
 // Reads until the buffer is full, the input ends or a read fails, and answers how many bytes stand at the buffer's start.
-// A read that fails after some bytes ends the input; only a first one that fails is told.
+// A read that fails after some bytes ends the input; only a first one that fails is told. The loop goes by what each read gave, which no
+// iterator over the buffer knows; the answer is a count, as that of `Read::read` is.
 pub fn read_full<R: Read>(input: &mut R, buffer: &mut [u8]) -> io::Result<usize>
     ensures bound { ReadsAtMost result buffer.new }
     ensures bytes { IfOk result (λ n. Consumes (R.remaining input.old) (R.remaining input.new) (take n buffer.new)) }

@@ -14,12 +14,11 @@ use Rattle.choose.proofs.Tests.{both_true, bit_le}
 use Rattle.names.specs.Mnemonics.{letters_from}
 use Rattle.pieces.specs.Read.{name_of}
 use Rattle.pieces.proofs.Laws.{cases}
-use Rattle.line.specs.Marks.{no_marks, user_in, with_user, with_mark, marks_from}
+use Rattle.line.specs.Marks.{Marks, no_marks, user_in, with_user, with_mark, marks_from}
 use Rattle.line.specs.Kinds.{kind_of, count_of, user_of}
-use Rattle.line.specs.declared.Marks.{Marks}
 
 -- whether a mark of the kind can't come any more: it was there, or is none
-abbrev seen : Marks → ℕ → Bool
+abbrev pub seen : Marks → ℕ → Bool
 seen m zero = m.odd
 seen m (suc zero) = m.load_rr
 seen m (suc (suc zero)) = m.rni
@@ -29,10 +28,10 @@ seen m (suc (suc (suc (suc k)))) = true
 -- ---- one mark more
 
 -- n are the marks m and one of kind k, with U's digit u
-record Step (m n : Marks) (k u : ℕ) : Type 0 where
-  good : n.good ≡ m.good && not (seen m k)
-  after : (j : ℕ) → j < 5 → seen n j ≡ (seen m j || eqb k j)
-  user : n.user ≡ pick (eqb k 3) u m.user
+pub record Step (m n : Marks) (k u : ℕ) : Type 0 where
+  pub good : n.good ≡ m.good && not (seen m k)
+  pub after : (j : ℕ) → j < 5 → seen n j ≡ (seen m j || eqb k j)
+  pub user : n.user ≡ pick (eqb k 3) u m.user
 
 five : (P : ℕ → Type 0) → P 0 → P 1 → P 2 → P 3 → P 4 → (j : ℕ) → j < 5 → P j
 five P a b c d e zero h = a
@@ -48,7 +47,7 @@ same b = sym (or-false b)
 now : (b : Bool) → true ≡ (b || true)
 now b = sym (or-true b)
 
-step : (m : Marks) (name : ℕ) → Step m (with_mark m name) (kind_of name) (user_in name)
+pub step : (m : Marks) (name : ℕ) → Step m (with_mark m name) (kind_of name) (user_in name)
 unfolding with_mark with_user kind_of
 step m name =
     cases (eqb name (letters_from 0 4 "ODD"))

@@ -9,12 +9,12 @@ use native.Mathlib.Omega.{arith}
 use lib.Dec.{ltb, leb}
 use lib.ListN.{drop}
 use borrow.Author.Tests.{ltb-true, ltb-false, leb-true, leb-false, lt-ltb, le-ltb, le-leb, lt-leb, eq-eqb}
+use Rattle.std.specs.Prelude.{Some}
 use Rattle.choose.specs.Ranged.{bit, pick}
 use Rattle.choose.proofs.Tests.{both_true, three}
 use Rattle.code.specs.CodeRows.{class_of, class_number, listed}
 use Rattle.code.specs.Word.{code_in, code_of, well_formed, word_of, together_of}
 use Rattle.code.specs.declared.Class.{Class}
-use Rattle.code.specs.declared.Together.{Together}
 use Rattle.code.proofs.Shape.{fits-own}
 use Rattle.names.specs.Mnemonics.{mnemonic_of}
 use Rattle.forms.specs.Forms.{form_of, limit_of}
@@ -25,9 +25,7 @@ use Rattle.forms.proofs.Names.{names, named-first}
 use Rattle.pieces.specs.Parts.{piece_of}
 use Rattle.pieces.specs.Read.{name_of, value_of}
 use Rattle.pieces.proofs.Laws.{cases, number-le}
-use Rattle.line.specs.Line.{tail_of, fits_form, good_marks, fields_for, word_for, placed_of, line_of}
-use Rattle.line.specs.declared.Line.{Line}
-use Rattle.line.specs.declared.Tail.{Tail}
+use Rattle.line.specs.Line.{Line, Tail, tail_of, fits_form, good_marks, fields_for, word_for, placed_of, line_of}
 
 -- the address, the top byte that the mnemonic names, and what stands after it
 abbrev pub address_in : List (List ℕ) → ℕ
@@ -53,7 +51,7 @@ own_code top true own e = (sym (twin top e).class, rw (twin-register top e))
 own_code top false own e = rw (add-zero top) (refl, own)
 
 pub together-fine : (name : ℕ) (t : Tail) → top_named name < 0x100 → good_marks (top_named name) t ≡ true
-    → together_of (fields_for (top_named name) t) ≡ Together.Word (word_of (fields_for (top_named name) t))
+    → together_of (fields_for (top_named name) t) ≡ Some (word_of (fields_for (top_named name) t))
 unfolding together_of well_formed
 together-fine name t h e =
     let n = names name h in
@@ -214,7 +212,7 @@ pub record Taken (next : ℕ) (ps : List (List ℕ)) (a w : ℕ) : Type 0 where
   pub named : top_in ps < 0x100
   pub fits : Fitting (form_of (top_in ps)) (tail_in ps)
   pub marked : good_marks (top_in ps) (tail_in ps) ≡ true
-  pub whole : together_of (fields_for (top_in ps) (tail_in ps)) ≡ Together.Word w
+  pub whole : together_of (fields_for (top_in ps) (tail_in ps)) ≡ Some w
   pub address : address_in ps ≡ a
   pub below : a < 0x800
   pub rising : next ≤ a
@@ -229,7 +227,7 @@ taken next ps a w e =
       named = ltb-true _ _ named;
       fits = fits-form _ _ form;
       marked = marks;
-      whole = together-fine _ (tail_in ps) (ltb-true _ _ named) marks ∙ ap Together.Word word;
+      whole = together-fine _ (tail_in ps) (ltb-true _ _ named) marks ∙ ap Some word;
       address = here;
       below = rw here at (ltb-true (address_in ps) 0x800 low);
       rising = rw here at (leb-true next (address_in ps) rising);

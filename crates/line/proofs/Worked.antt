@@ -17,9 +17,7 @@ use Rattle.forms.specs.Named.{top_named, twinned}
 use Rattle.pieces.specs.Parts.{parts_of, pieces_of}
 use Rattle.pieces.specs.Read.{upper_of, name_of, digit_of, value_of}
 use Rattle.line.specs.Marks.{user_in, with_user, with_mark, marks_from}
-use Rattle.line.specs.Line.{tail_of, fits_form, word_for, placed_of, line_of}
-use Rattle.line.specs.declared.Line.{Line}
-use Rattle.line.specs.declared.Line.TheVariants.{Bad, Word}
+use Rattle.line.specs.Line.{Line, Bad, Word, tail_of, fits_form, word_for, placed_of, line_of}
 use Rattle.line.proofs.Laws.{tail_in, taken}
 
 abbrev bytes : String → List ℕ

@@ -26,10 +26,8 @@ use Rattle.pieces.specs.Read.{upper_of, letter_of, name_of, digit_of, digits, va
 use Rattle.pieces.proofs.Laws.{cases, number-le, number_digits}
 use Rattle.line.specs.Marks.{no_marks, user_in, marks_from}
 use Rattle.line.specs.Kinds.{kind_of, count_of}
-use Rattle.line.specs.Line.{tail_with, tail_of, fits_form, fields_for, line_of}
+use Rattle.line.specs.Line.{Line, Tail, tail_with, tail_of, fits_form, fields_for, line_of}
 use Rattle.line.specs.Written.{Number, most_of, Written, WellWritten, word_written}
-use Rattle.line.specs.declared.Line.{Line}
-use Rattle.line.specs.declared.Tail.{Tail}
 use Rattle.line.proofs.EachOnce.{marks-exactly, marks-say}
 use Rattle.line.proofs.Laws.{address_in, top_in, word_in, fitting, fits-form, bad-11, bad-12, good-line}
 

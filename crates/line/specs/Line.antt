@@ -1,18 +1,27 @@
 -- A line taken apart: "address mnemonic operands marks". On one line the first of 10, 11, 12 is given.
-use Rattle.std.specs.Prelude.{ℕ, ◌+◌, ◌%◌, Bool, not, ◌&&◌, ◌||◌, List, ltb, leb, drop}
+use Rattle.std.specs.Prelude.{ℕ, ◌+◌, ◌%◌, Bool, not, ◌&&◌, ◌||◌, List, ltb, leb, drop, Some, None, Option}
 use Rattle.choose.specs.Ranged.{bit, pick}
 use Rattle.code.specs.CodeRows.{class_of}
 use Rattle.code.specs.Word.{operands_in, together_of}
 use Rattle.code.specs.declared.Fields.{Fields}
-use Rattle.code.specs.declared.Together.{Together}
 use Rattle.forms.specs.Forms.{form_of, limit_of, joined_of}
 use Rattle.forms.specs.Named.{top_named, twinned}
 use Rattle.forms.specs.declared.Form.{Form}
 use Rattle.pieces.specs.Parts.{piece_of}
 use Rattle.pieces.specs.Read.{name_of, value_of, is_number}
-use Rattle.line.specs.Marks.{no_marks, marks_from}
-use Rattle.line.specs.declared.Tail.{Tail}
-use Rattle.line.specs.declared.Line.{Line}
+use Rattle.line.specs.Marks.{Marks, no_marks, marks_from}
+
+-- what stands after a mnemonic: how many operands, two at most; the operands, 0 for one that isn't there; the marks
+pub record Tail : Type 0 where
+  pub count : ℕ
+  pub first : ℕ
+  pub second : ℕ
+  pub marks : Marks
+
+-- a line's answer: the number of what is bad in it, or its word at its address
+pub data Line : Type 0 where
+  Bad : ℕ → Line
+  Word : ℕ → ℕ → Line
 
 -- so many operands, and marks after them
 abbrev pub tail_with : ℕ → ℕ → ℕ → List (List ℕ) → Tail
@@ -50,13 +59,13 @@ fields_for top t =
     }
 
 -- the word of an instruction with these operands and marks; malformed is an 11, "operand or mark missing, extra or out of range"
-unfoldable pub word_for : ℕ → Tail → Together
-word_for top t = pick (fits_form (form_of top) t && good_marks top t) (together_of (fields_for top t)) Together.Malformed
+unfoldable pub word_for : ℕ → Tail → Option ℕ
+word_for top t = pick (fits_form (form_of top) t && good_marks top t) (together_of (fields_for top t)) None
 
 -- 12: "address not hexadecimal, not rising or over 2,047". It has to be `next` or more
-unfoldable pub placed_of : ℕ → ℕ → Together → Line
-placed_of next address Together.Malformed = Line.Bad 11
-placed_of next address (Together.Word w) = pick (ltb address 0x800 && leb next address) (Line.Word address w) (Line.Bad 12)
+unfoldable pub placed_of : ℕ → ℕ → Option ℕ → Line
+placed_of next address None = Line.Bad 11
+placed_of next address (Some w) = pick (ltb address 0x800 && leb next address) (Line.Word address w) (Line.Bad 12)
 
 -- 10: "unknown or absent mnemonic"
 unfoldable pub line_of : ℕ → List (List ℕ) → Line

@@ -1,9 +1,16 @@
 -- "Marks, after the operands, in any order, each at most once": ODD, RR, RNI, and U with a digit.
-use Rattle.std.specs.Prelude.{ℕ, ◌/◌, ◌%◌, true, false, not, ◌&&◌, List, [], ◌∷◌, eqb, ltb}
+use Rattle.std.specs.Prelude.{ℕ, Bool, ◌/◌, ◌%◌, true, false, not, ◌&&◌, List, [], ◌∷◌, eqb, ltb}
 use Rattle.choose.specs.Ranged.{pick}
 use Rattle.names.specs.Mnemonics.{letters_from}
 use Rattle.pieces.specs.Read.{name_of, digit_of}
-use Rattle.line.specs.declared.Marks.{Marks}
+
+-- the marks of a line: whether they are good, which are there, and the digit of U
+pub record Marks : Type 0 where
+  pub good : Bool
+  pub odd : Bool
+  pub load_rr : Bool
+  pub rni : Bool
+  pub user : ℕ
 
 -- before the first mark; 0x10 stands for no U, since U0 is one
 abbrev pub no_marks : Marks

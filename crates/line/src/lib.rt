@@ -1,225 +1,204 @@
 // A line taken apart: its address and its word, or why it is refused.
 #![tactic(auto)]
 
-ghost use Rattle.std.specs.Prelude.{◌≡◌, ◌-◌, ◌≤◌, length, take, drop};
+ghost use Rattle.std.specs.Prelude.{◌≡◌, ◌<◌, ◌≤◌, MatchOption, SomeIff};
 ghost use Rattle.pieces.specs.Parts.{pieces_of};
-ghost use Rattle.pieces.specs.Read.{name_of, value_of};
+ghost use Rattle.pieces.specs.Read.{value_of};
 ghost use Rattle.line.specs.Marks.{no_marks, user_in, with_user, with_mark, marks_from};
-ghost use Rattle.line.specs.Line.{tail_of, fits_form, word_for, placed_of, line_of};
+ghost use Rattle.line.specs.Line.{tail_of, fits_form, word_for, line_of};
+ghost use Rattle.line.specs.Coded.{marks_as, AreMarks, tail_as, IsTail, NoNumber, FirstNumber, Nameless, Named, line_as};
 
 use choose::bit_of;
-use code::{Fields, Together};
+use code::Fields;
 use forms::{Form, ODD, RNI, RR};
-use pieces::Piece;
+use refusals::Refusal;
 
-// The marks of a line. `user` is 0x10 where there is no U; `good` is false once a piece is no mark or a mark comes again.
+// The marks of a line, each of which stands there once; `user` is U's digit.
 #[derive(Clone, Copy)]
 pub struct Marks {
-    pub good: bool,
     pub odd: bool,
     pub load_rr: bool,
     pub rni: bool,
-    pub user: u8,
+    pub user: Option<u8>,
 }
 
-// What stands after a mnemonic: how many operands, two at most; the operands, 0 for one that isn't there; the marks.
+// What stands after a mnemonic: two operands at most, and marks.
 #[derive(Clone, Copy)]
 pub struct Tail {
-    pub count: u8,
-    pub first: u16,
-    pub second: u16,
+    pub first: Option<u16>,
+    pub second: Option<u16>,
     pub marks: Marks,
 }
 
+// A word, and the address where it stands.
 #[derive(Clone, Copy)]
-pub enum Line {
-    Bad(u32),
-    Word { address: u32, word: u32 },
+pub struct Placed {
+    pub address: u32,
+    pub word: u32,
 }
 
-fn name_in(line: &[u8], p: Piece) -> u32
-    requires { (p.from ≤ p.to) × (p.to ≤ length line.now) }
-    ensures { result ≡ name_of (take (p.to - p.from) (drop p.from line.now)) }
-{
-    let from = p.from;
-    let to = p.to;
-    pieces::name_of(&line[from..to])
-}
-
-fn number_in(line: &[u8], p: Piece) -> u16
-    requires { (p.from ≤ p.to) × (p.to ≤ length line.now) }
-    ensures { result ≡ value_of (take (p.to - p.from) (drop p.from line.now)) }
-{
-    let from = p.from;
-    let to = p.to;
-    pieces::number_of(&line[from..to])
-}
-
-// The digit of U; 0x10 for what is no U with one digit.
+// The digit of a U that has one.
 #[tactic(auto, unfolding(crate::specs::Marks::user_in))]
-fn user_in(name: u32) -> u8
-    ensures { result ≡ user_in name }
+fn user_in(name: u32) -> Option<u8>
+    ensures { SomeIff result (user_in name < 0x10) (user_in name) }
 {
-    if (name / 0x100_0000 == 0x55) & (name % 0x1_0000 == 0x2020) {
-        return pieces::digit_of((name / 0x1_0000 % 0x100) as u8);
+    match name.to_be_bytes() {
+        [b'U', digit, b' ', b' '] => pieces::digit_of(digit),
+        _ => None,
     }
-    0x10
 }
 
 #[tactic(auto, unfolding(crate::specs::Marks::with_user))]
-fn with_user(mut m: Marks, user: u8) -> Marks
-    ensures { result ≡ with_user m user }
+fn with_user(m: Marks, user: u8) -> Option<Marks>
+    requires { user < 0x10 }
+    ensures { AreMarks result (with_user (marks_as m) user) }
 {
-    if user < 0x10 {
-        m.good = m.good & (m.user == 0x10);
-        m.user = user;
-        return m;
+    if m.user.is_some() {
+        return None;
     }
-    m.good = false;
-    m
+    Some(Marks {
+        user: Some(user),
+        ..m
+    })
 }
 
-#[tactic(auto, unfolding(crate::specs::Marks::with_mark))]
-fn with_mark(mut m: Marks, name: u32) -> Marks
-    ensures { result ≡ with_mark m name }
+// One mark more, where it is one and the first of its kind.
+#[tactic(auto, unfolding(crate::specs::Marks::with_mark, crate::specs::Marks::with_user))]
+fn with_mark(m: Marks, name: u32) -> Option<Marks>
+    ensures { AreMarks result (with_mark (marks_as m) name) }
 {
-    if name == ODD {
-        m.good = m.good & !m.odd;
-        m.odd = true;
-        return m;
+    match name {
+        ODD => (!m.odd).then_some(Marks { odd: true, ..m }),
+        RR => (!m.load_rr).then_some(Marks { load_rr: true, ..m }),
+        RNI => (!m.rni).then_some(Marks { rni: true, ..m }),
+        _ => with_user(m, user_in(name)?),
     }
-    if name == RR {
-        m.good = m.good & !m.load_rr;
-        m.load_rr = true;
-        return m;
-    }
-    if name == RNI {
-        m.good = m.good & !m.rni;
-        m.rni = true;
-        return m;
-    }
-    with_user(m, user_in(name))
 }
 
-// The marks from `first` to the line's end.
-#[tactic(auto, unfolding(crate::specs::Marks::marks_from))]
-fn marks_from(line: &[u8], first: usize) -> Marks
-    ensures { result ≡ marks_from no_marks (pieces_of (drop first line.now)) }
+// The marks of a line with nothing else.
+fn marks_of(line: &[u8]) -> Option<Marks>
+    ensures { AreMarks result (marks_from no_marks (pieces_of line.now)) }
 {
     let mut m = Marks {
-        good: true,
         odd: false,
         load_rr: false,
         rni: false,
-        user: 0x10,
+        user: None,
     };
-    let mut at = first;
-    loop {
-        let p = pieces::piece_at(line, at);
-        if p.from == p.to {
-            return m;
-        }
-        m = with_mark(m, name_in(line, p));
-        at = p.to;
+    let mut left = line;
+    while let Some((piece, rest)) = pieces::first_piece(left) {
+        m = with_mark(m, pieces::name_of(piece)?)?;
+        left = rest;
     }
+    Some(m)
 }
 
-#[tactic(auto, unfolding(crate::specs::Line::tail_of))]
-fn tail_of(line: &[u8], at: usize) -> Tail
-    ensures { result ≡ tail_of (pieces_of (drop at line.now)) }
+// A number, and the line after it.
+fn operand(line: &[u8]) -> Option<(u16, &[u8])>
+    ensures { MatchOption result (NoNumber (pieces_of line.now)) (λ p. FirstNumber (pieces_of line.now) p.0 (pieces_of p.1.now)) }
 {
-    let p = pieces::piece_at(line, at);
-    let first = number_in(line, p);
-    if 0x800 <= first {
-        let marks = marks_from(line, at);
-        return Tail {
-            count: 0,
-            first: 0,
-            second: 0,
+    let (piece, rest) = pieces::first_piece(line)?;
+    let n = pieces::number_of(piece)?;
+    Some((n, rest))
+}
+
+fn tail_of(line: &[u8]) -> Option<Tail>
+    ensures { IsTail result (tail_of (pieces_of line.now)) }
+{
+    let Some((first, after)) = operand(line) else {
+        let marks = marks_of(line)?;
+        return Some(Tail {
+            first: None,
+            second: None,
             marks,
-        };
-    }
-    let q = pieces::piece_at(line, p.to);
-    let second = number_in(line, q);
-    if 0x800 <= second {
-        let marks = marks_from(line, p.to);
-        return Tail {
-            count: 1,
-            first,
-            second: 0,
+        });
+    };
+    let Some((second, last)) = operand(after) else {
+        let marks = marks_of(after)?;
+        return Some(Tail {
+            first: Some(first),
+            second: None,
             marks,
-        };
-    }
-    let marks = marks_from(line, q.to);
-    Tail {
-        count: 2,
-        first,
-        second,
+        });
+    };
+    let marks = marks_of(last)?;
+    Some(Tail {
+        first: Some(first),
+        second: Some(second),
         marks,
-    }
+    })
 }
 
 #[tactic(auto, unfolding(crate::specs::Line::fits_form))]
 fn fits(form: Form, t: Tail) -> bool
-    ensures { result ≡ fits_form form t }
+    ensures { result ≡ fits_form form (tail_as t) }
 {
-    (form.needed <= t.count)
-        & (t.count as u32 <= 1 + form.second as u32)
-        & (t.first < forms::limit(form.first))
-        & (t.second < forms::limit(form.second))
+    let count = bit_of(t.first.is_some()) + bit_of(t.second.is_some());
+    form.needed <= count
+        && count as u32 <= 1 + form.second as u32
+        && t.first.unwrap_or(0) < forms::limit(form.first)
+        && t.second.unwrap_or(0) < forms::limit(form.second)
 }
 
-fn word_for(top: u8, t: Tail) -> Together
-    ensures { result ≡ word_for top t }
+// The word of an instruction with these operands and marks.
+fn made(top: u8, t: Tail) -> Option<u32>
+    ensures { result ≡ word_for top (tail_as t) }
 {
     let form = forms::form_of(top);
-    let marks = t.marks;
-    if !fits(form, t) | !marks.good {
-        return Together::Malformed;
+    if !fits(form, t) {
+        return None;
     }
+    let marks = t.marks;
     if marks.odd & !forms::has_twin(top) {
-        return Together::Malformed;
+        return None;
     }
     let class = code::class_of(top);
-    let operands = code::operands_in(class, forms::joined(form, t.first, t.second));
+    let low = forms::joined(form, t.first.unwrap_or(0), t.second.unwrap_or(0));
     code::put_together(Fields {
         code: top + bit_of(marks.odd),
         class,
-        operands,
+        operands: code::operands_in(class, low),
         load_rr: marks.load_rr,
         rni: marks.rni,
-        user: marks.user % 0x10,
+        user: marks.user.unwrap_or(0) % 0x10,
     })
 }
 
-#[tactic(auto, unfolding(crate::specs::Line::placed_of))]
-fn placed(next: u32, address: u16, t: Together) -> Line
-    ensures { result ≡ placed_of next address t }
+fn word_for(top: u8, line: &[u8]) -> Option<u32>
+    ensures { result ≡ word_for top (tail_of (pieces_of line.now)) }
 {
-    match t {
-        Together::Malformed => Line::Bad(11),
-        Together::Word(word) => {
-            let address = address as u32;
-            if (address < 0x800) & (next <= address) {
-                Line::Word { address, word }
-            } else {
-                Line::Bad(12)
-            }
-        }
+    let t = tail_of(line)?;
+    made(top, t)
+}
+
+// A line's address, the top byte that its mnemonic names, and the line after that.
+fn parted(line: &[u8]) -> Option<(&[u8], u8, &[u8])>
+    ensures { MatchOption result (Nameless (pieces_of line.now)) (λ p. Named (pieces_of line.now) p.0.now p.1 (pieces_of p.2.now)) }
+{
+    let (address, rest) = pieces::first_piece(line)?;
+    let (mnemonic, rest) = pieces::first_piece(rest)?;
+    let name = pieces::name_of(mnemonic)?;
+    let top = forms::top_named(name)?;
+    Some((address, top, rest))
+}
+
+// An address that is `next` or more.
+fn rising(next: u32, address: &[u8]) -> Option<u32>
+    ensures { SomeIff result ((value_of address.now < 0x800) × (next ≤ value_of address.now)) (value_of address.now) }
+{
+    let address = pieces::number_of(address)? as u32;
+    if address < next {
+        return None;
     }
+    Some(address)
 }
 
 // A line whose address has to be `next` or more.
-#[tactic(auto, unfolding(crate::specs::Line::line_of))]
-pub fn line_of(line: &[u8], next: u32) -> Line
-    ensures { result ≡ line_of next (pieces_of line.now) }
+pub fn line_of(line: &[u8], next: u32) -> Result<Placed, Refusal>
+    ensures { line_as result ≡ line_of next (pieces_of line.now) }
 {
-    let address = pieces::piece_at(line, 0);
-    let mnemonic = pieces::piece_at(line, address.to);
-    let top = forms::top_named(name_in(line, mnemonic));
-    if 0x100 <= top {
-        return Line::Bad(10);
-    }
-    let word = word_for(top as u8, tail_of(line, mnemonic.to));
-    placed(next, number_in(line, address), word)
+    let (address, top, rest) = parted(line).ok_or(Refusal::Mnemonic)?;
+    let word = word_for(top, rest).ok_or(Refusal::Operand)?;
+    let address = rising(next, address).ok_or(Refusal::Address)?;
+    Ok(Placed { address, word })
 }

@@ -5,52 +5,47 @@ use mathlib.Core.List.{List, [], ◌∷◌, ◌++◌}
 use native.Mathlib.Nat.{add-zero, zero-add}
 use native.Mathlib.Omega.{arith}
 use borrow.Author.Tests.{eq-eqb, ne_eqb, lt-ltb, le-ltb}
-use lib.ListN.{length, take, drop, replicate, length-append, length-replicate, drop_of_length-le}
+use lib.ListN.{length, replicate, length-append, length-replicate}
 use lib.Seq.{sets, sets-eq}
-use Rattle.line.specs.Line.{line_of}
-use Rattle.line.specs.declared.Line.{Line}
+use Rattle.line.specs.Line.{Line, line_of}
 use Rattle.line.proofs.Laws.{bad-number, not-zero, taken}
-use Rattle.pieces.specs.Counted.{length_to}
-use Rattle.pieces.specs.Parts.{parts_of, lines_of, pieces_of}
-use Rattle.pieces.proofs.Laws.{parts-step}
-use Rattle.listing.specs.Assembled.{report_of, judged, bytes_of, words_from, refusal_from, assembled_of, assembled_into}
+use Rattle.pieces.specs.Parts.{lines_of, pieces_of}
+use Rattle.listing.specs.Assembled.{report_of, judged, bytes_of, words_from, refusal_from, assembled_of, assembled_into, text_report}
+use Rattle.refusals.proofs.Laws.{not-0}
 use Rattle.listing.specs.declared.Report.{Report}
+use Rattle.listing.specs.declared.TextRefused.{TextRefused}
 use Rattle.listing.proofs.Laws.{bytes-length}
 
--- the line from byte `at` on, by its end
-module _ (text : List ℕ) (at end next : ℕ) (h : at < length text) (q : end ≡ at + length_to 10 (drop at text)) where
-  abbrev line : List (List ℕ)
-  line = pieces_of (take (end - at) (drop at text))
-
+-- lines that are one and others after it
+module _ (ls : List (List ℕ)) (l : List ℕ) (rest : List (List ℕ)) (split : ls ≡ l ∷ rest) (next : ℕ) where
   -- a bad one: none of its words or of those after it
-  pub bad-words : (n : ℕ) → line_of next line ≡ Line.Bad n → words_from next (lines_of (drop at text)) ≡ []
+  pub bad-words : (n : ℕ) → line_of next (pieces_of l) ≡ Line.Bad n → words_from next ls ≡ []
   unfolding words_from
-  bad-words n e = rw (parts-step 10 text at end h q, e)
+  bad-words n e = rw (split, e)
 
-  pub bad-refusal : (number n : ℕ) → line_of next line ≡ Line.Bad n → refusal_from number next (lines_of (drop at text)) ≡ report_of n number 0
+  pub bad-refusal : (number n : ℕ) → line_of next (pieces_of l) ≡ Line.Bad n → refusal_from number next ls ≡ report_of n number 0
   unfolding refusal_from
-  bad-refusal number n e = rw (parts-step 10 text at end h q, e)
+  bad-refusal number n e = rw (split, e)
 
   -- a good one, and the lines after it
-  pub good-words : (a w : ℕ) → line_of next line ≡ Line.Word a w
-      → words_from next (lines_of (drop at text)) ≡ replicate (a - next) 0xFF00 ++ w ∷ words_from (a + 1) (lines_of (drop (end + 1) text))
+  pub good-words : (a w : ℕ) → line_of next (pieces_of l) ≡ Line.Word a w
+      → words_from next ls ≡ replicate (a - next) 0xFF00 ++ w ∷ words_from (a + 1) rest
   unfolding words_from
-  good-words a w e = rw (parts-step 10 text at end h q, e)
+  good-words a w e = rw (split, e)
 
-  pub good-refusal : (number a w : ℕ) → line_of next line ≡ Line.Word a w
-      → refusal_from number next (lines_of (drop at text)) ≡ refusal_from (number + 1) (a + 1) (lines_of (drop (end + 1) text))
+  pub good-refusal : (number a w : ℕ) → line_of next (pieces_of l) ≡ Line.Word a w → refusal_from number next ls ≡ refusal_from (number + 1) (a + 1) rest
   unfolding refusal_from
-  good-refusal number a w e = rw (parts-step 10 text at end h q, e)
+  good-refusal number a w e = rw (split, e)
 
 -- no line is left
-module _ (text : List ℕ) (at : ℕ) (h : length text ≤ at) where
-  pub no_words : (next : ℕ) → words_from next (lines_of (drop at text)) ≡ []
-  unfolding words_from parts_of
-  no_words next = rw (drop_of_length-le text h)
+module _ (ls : List (List ℕ)) (none : ls ≡ []) (next : ℕ) where
+  pub no_words : words_from next ls ≡ []
+  unfolding words_from
+  no_words = rw none
 
-  pub no-refusal : (number next : ℕ) → refusal_from number next (lines_of (drop at text)) ≡ report_of 0 0 (4 * next)
-  unfolding refusal_from parts_of
-  no-refusal number next = rw (drop_of_length-le text h)
+  pub no-refusal : (number : ℕ) → refusal_from number next ls ≡ report_of 0 0 (4 * next)
+  unfolding refusal_from
+  no-refusal number = rw none
 
 -- ---- good lines from the address `next` on: where their words end, and the length that is told
 pub record Counted (line next : ℕ) (ls : List (List ℕ)) : Type 0 where
@@ -75,6 +70,11 @@ lines-counted line next (l ∷ ls) h e = go (λ n. lines-counted (line + 1) n ls
 -- an accepted text's bytes are as many as the length that is told
 pub bytes-told : (ls : List (List ℕ)) → (refusal_from 1 0 ls).answer ≡ 0 → length (bytes_of (words_from 0 ls)) ≡ (refusal_from 1 0 ls).length
 bytes-told ls e = omega (arith, bytes-length (words_from 0 ls), (lines-counted 1 0 ls (omega arith) e).counted)
+
+-- a refusal has a number
+pub text_not-0 : (r : TextRefused) → (text_report r).answer ≡ 0 → ⊥
+text_not-0 (TextRefused.Line number why) e = not-0 why e
+text_not-0 (TextRefused.Room needed) e = omega arith
 
 -- ---- what a text's report comes to in an output: refused, short of room, or done
 module _ (text out : List ℕ) (r : Report) (told : r ≡ refusal_from 1 0 (lines_of text)) where

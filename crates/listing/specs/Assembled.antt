@@ -1,10 +1,11 @@
 -- What a text assembles to: "Words: four bytes each, low byte first, from address 0 to the last line's; gaps, also before the first line, are FF00".
-use Rattle.std.specs.Prelude.{ℕ, ◌+◌, ◌*◌, ◌-◌, ◌/◌, ◌%◌, ◌&&◌, List, [], ◌∷◌, ◌++◌, eqb, ltb, length, drop, replicate}
+use Rattle.std.specs.Prelude.{ℕ, ◌+◌, ◌*◌, ◌-◌, ◌/◌, ◌%◌, ◌&&◌, List, [], ◌∷◌, ◌++◌, Result, Ok, Err, eqb, ltb, length, drop, replicate}
 use Rattle.choose.specs.Ranged.{pick}
-use Rattle.line.specs.Line.{line_of}
-use Rattle.line.specs.declared.Line.{Line}
+use Rattle.line.specs.Line.{Line, line_of}
 use Rattle.pieces.specs.Parts.{lines_of, pieces_of}
+use Rattle.refusals.specs.Refusals.{number_of}
 use Rattle.listing.specs.declared.Report.{Report}
+use Rattle.listing.specs.declared.TextRefused.{TextRefused}
 
 abbrev pub report_of : ℕ → ℕ → ℕ → Report
 report_of answer at n = record { answer = answer; at = at; length = n }
@@ -47,3 +48,12 @@ written_if r bs out = pick (eqb r.answer 0) (bs ++ drop (length bs) out) out
 
 unfoldable pub assembled_into : List ℕ → List ℕ → List ℕ
 assembled_into text out = written_if (assembled_of text (length out)) (bytes_of (words_from 0 (lines_of text))) out
+
+-- the assembler's answer as it is told: the length, or the number with its line or what is needed
+abbrev pub text_report : TextRefused → Report
+text_report (TextRefused.Line number why) = report_of (number_of why) number 0
+text_report (TextRefused.Room needed) = report_of 27 0 needed
+
+abbrev pub assembled_report : Result ℕ TextRefused → Report
+assembled_report (Ok n) = report_of 0 0 n
+assembled_report (Err refused) = text_report refused

@@ -1,2 +1,3 @@
 pub mod Assembled
 pub mod Listed
+pub mod Laid

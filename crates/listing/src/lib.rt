@@ -1,18 +1,23 @@
 // The assembler and the lister, for hosts.
 #![tactic(auto)]
 
-ghost use Rattle.std.specs.Prelude.{◌≡◌, ◌+◌, ◌*◌, ◌-◌, ◌≤◌, [], ◌∷◌, length, replicate};
+ghost use Rattle.std.specs.Prelude.{◌≡◌, ◌==◌, ◌*◌, ◌-◌, ◌≤◌, [], ◌∷◌, length, replicate, Err};
 ghost use Rattle.std.proofs.lemmas.List.Edits.{sets};
 ghost use Rattle.pieces.specs.Parts.{lines_of};
 ghost use Rattle.choose.specs.Below.{firsts};
 ghost use Rattle.numbers.specs.Numbers.{word_at};
 ghost use Rattle.code.specs.Word.{apart_of, number_of};
-ghost use Rattle.spelling.specs.Laid.{Laid};
-ghost use Rattle.listing.specs.Assembled.{report_of, bytes_of, words_from, refusal_from, assembled_of, assembled_into};
-ghost use Rattle.listing.specs.Listed.{word_count, first_with, word_line, listing_from, listed_of, listed_into};
+ghost use Rattle.spelling.specs.Line.{text_of};
+ghost use Rattle.listing.specs.Laid.{Laid};
+ghost use Rattle.listing.specs.Assembled.{report_of, bytes_of, words_from, refusal_from};
+ghost use Rattle.listing.specs.Assembled.{assembled_of, assembled_into, text_report, assembled_report};
+ghost use Rattle.listing.specs.Listed.{word_count, place_below, first_with, word_line, listing_from};
+ghost use Rattle.listing.specs.Listed.{listed_of, listed_into, words_report, listed_report};
 
-use code::Apart;
-use line::Line;
+use code::Unread;
+use refusals::Refusal;
+use spelling::Line;
+use std::fmt;
 
 const NOP: u32 = 0xFF00;
 
@@ -25,208 +30,240 @@ pub struct Report {
     pub length: u32,
 }
 
-fn told(answer: u32, at: usize, length: usize) -> Report
-    requires { (at ≤ 2048) × (length ≤ 81920) }
-    ensures { result ≡ report_of answer at length }
-{
-    Report {
-        answer,
-        at: at as u32,
-        length: length as u32,
+// Why a text is not assembled.
+#[derive(Clone, Copy)]
+pub enum TextRefused {
+    // The first bad line, counted from 1.
+    Line { number: u32, why: Refusal },
+    // The bytes that there is no room for.
+    Room { needed: u32 },
+}
+
+impl From<TextRefused> for Report {
+    ghost from_gives = { λ refused report. report ≡ text_report refused };
+
+    fn from(refused: TextRefused) -> Report {
+        match refused {
+            TextRefused::Line { number, why } => told(why.number() as u32, number, 0),
+            TextRefused::Room { needed } => told(27, 0, needed),
+        }
     }
 }
 
-// A byte of the output. One that has no place there is only counted by the caller.
-fn put(out: &mut [u8], at: usize, b: u8)
-    ensures { out.new ≡ sets out.old at (b ∷ []) }
+// Why words have no listing.
+#[derive(Clone, Copy)]
+pub enum WordsRefused {
+    // The first word that is no listed one.
+    Word { address: u16, why: Unread },
+    // Over 2,048 words, or a length that is no multiple of 4.
+    Length,
+    // The bytes that there is no room for.
+    Room { needed: u32 },
+}
+
+impl WordsRefused {
+    // Whether it is the lister's 2.
+    pub fn is_range(self) -> bool
+        ensures { result ≡ ((words_report self).answer == 2) }
+    {
+        match self {
+            WordsRefused::Word { why, .. } => why == Unread::OutOfRange,
+            WordsRefused::Length => true,
+            WordsRefused::Room { .. } => false,
+        }
+    }
+}
+
+impl fmt::Display for WordsRefused {
+    fn fmt<W: fmt::Write>(&self, f: &mut fmt::Formatter<W>) -> fmt::Result {
+        match *self {
+            WordsRefused::Word {
+                address,
+                why: Unread::OutOfRange,
+            } => write!(f, "word {address:03X}: 2 word of 2^22 or more"),
+            WordsRefused::Word {
+                address,
+                why: Unread::Unlisted,
+            } => write!(f, "word {address:03X}: 6 code unlisted"),
+            WordsRefused::Length => write!(
+                f,
+                "2 over 2,048 words, or a length that is no multiple of 4"
+            ),
+            WordsRefused::Room { needed } => write!(f, "27 {needed} bytes needed"),
+        }
+    }
+}
+
+impl From<WordsRefused> for Report {
+    ghost from_gives = { λ refused report. report ≡ words_report refused };
+
+    fn from(refused: WordsRefused) -> Report {
+        match refused {
+            WordsRefused::Word {
+                address,
+                why: Unread::OutOfRange,
+            } => told(2, address as u32, 0),
+            WordsRefused::Word {
+                address,
+                why: Unread::Unlisted,
+            } => told(6, address as u32, 0),
+            WordsRefused::Length => told(2, 2048, 0),
+            WordsRefused::Room { needed } => told(27, 0, needed),
+        }
+    }
+}
+
+fn told(answer: u32, at: u32, length: u32) -> Report
+    ensures { result ≡ report_of answer at length }
+{
+    Report { answer, at, length }
+}
+
+// Bytes into an output, as far as there is room.
+fn put(out: &mut [u8], at: usize, bytes: &[u8])
+    ensures { out.new ≡ sets out.old at bytes.now }
 {
     if at < out.len() {
-        out[at] = b;
+        let n = bytes.len().min(out.len() - at);
+        out[at..at + n].copy_from_slice(&bytes[..n]);
     }
 }
 
 #[tactic(auto, unfolding(crate::specs::Assembled::bytes_of))]
 fn put_word(words: &mut [u8], address: u32, word: u32)
-    requires { address ≤ 2048 }
     ensures { words.new ≡ sets words.old (4 * address) (bytes_of (word ∷ [])) }
 {
-    let at = 4 * (address as usize);
-    put(words, at, (word % 0x100) as u8);
-    put(words, at + 1, (word / 0x100 % 0x100) as u8);
-    put(words, at + 2, (word / 0x1_0000 % 0x100) as u8);
-    put(words, at + 3, (word / 0x100_0000 % 0x100) as u8);
+    put(words, 4 * (address as usize), &word.to_le_bytes());
 }
 
 // The gap before an address.
-#[tactic(auto, unfolding(crate::specs::Assembled::bytes_of))]
 fn fill(words: &mut [u8], next: u32, address: u32)
-    requires { address ≤ 2048 }
     ensures { words.new ≡ sets words.old (4 * next) (bytes_of (replicate (address - next) 0xFF00)) }
 {
-    let mut i = next;
-    while i < address {
-        put_word(words, i, NOP);
-        i += 1;
+    for at in next..address {
+        put_word(words, at, NOP);
     }
 }
 
-// Assembles a text up to its end or its first bad line, as far as there is room.
-fn assembled(text: &[u8], words: &mut [u8]) -> Report
-    ensures { (result ≡ refusal_from 1 0 (lines_of text.now)) × (words.new ≡ sets words.old 0 (bytes_of (words_from 0 (lines_of text.now)))) }
+// Assembles a text up to its end or its first bad line, as far as there is room. The length of all words.
+fn assembled(text: &[u8], words: &mut [u8]) -> Result<u32, TextRefused>
+    ensures { (assembled_report result ≡ refusal_from 1 0 (lines_of text.now)) × (words.new ≡ sets words.old 0 (bytes_of (words_from 0 (lines_of text.now)))) }
 {
-    let mut at = 0;
     let mut number: u32 = 1;
     let mut next: u32 = 0;
-    while at < text.len() {
-        let end = pieces::part_end(text, at, b'\n');
-        match line::line_of(&text[at..end], next) {
-            Line::Bad(answer) => {
-                return Report {
-                    answer,
-                    at: number,
-                    length: 0,
-                };
-            }
-            Line::Word { address, word } => {
-                fill(words, next, address);
-                put_word(words, address, word);
-                next = address + 1;
+    let mut left = text;
+    while let Some((line, rest)) = pieces::first_line(left) {
+        match line::line_of(line, next) {
+            Err(why) => return Err(TextRefused::Line { number, why }),
+            Ok(placed) => {
+                fill(words, next, placed.address);
+                put_word(words, placed.address, placed.word);
+                next = placed.address + 1;
             }
         }
         number += 1;
-        at = end + 1;
+        left = rest;
     }
-    Report {
-        answer: 0,
-        at: 0,
-        length: 4 * next,
-    }
+    Ok(4 * next)
 }
 
-// Nothing is written before the whole text is known to be good and to have its room.
-pub fn assemble(text: &[u8], words: &mut [u8]) -> Report
-    ensures { (result ≡ assembled_of text.now (length words.old)) × (words.new ≡ assembled_into text.now words.old) }
+// Nothing is written before the whole text is known to be good and to have its room. The length that is written.
+pub fn assemble(text: &[u8], words: &mut [u8]) -> Result<u32, TextRefused>
+    ensures { (assembled_report result ≡ assembled_of text.now (length words.old)) × (words.new ≡ assembled_into text.now words.old) }
 {
     let mut scratch = [0u8; 1];
-    let r = assembled(text, &mut scratch);
-    if r.answer != 0 {
-        return r;
-    }
-    if words.len() < r.length as usize {
-        return Report {
-            answer: 27,
-            at: 0,
-            length: r.length,
-        };
+    let needed = assembled(text, &mut scratch)?;
+    if words.len() < needed as usize {
+        return Err(TextRefused::Room { needed });
     }
     assembled(text, words)
 }
 
 // How many words are looked at.
-fn count(words: &[u8]) -> usize
+fn count(words: &[u8]) -> u16
     ensures { (result ≡ word_count words.now) × (result ≤ 2048) }
 {
-    let whole = words.len() / 4;
-    if whole < 2048 {
-        return whole;
-    }
-    2048
+    (words.len() / 4).min(2048) as u16
 }
 
-// 01's number for word i: 2 out of range, 6 unlisted, else 0.
 #[tactic(auto, unfolding(numbers::specs::Numbers::word_at))]
-fn number_at(words: &[u8], i: usize) -> u32
-    requires { i ≤ 2048 }
-    ensures { result ≡ number_of (apart_of (word_at words.now i)) }
+fn word(words: &[u8], i: u16) -> u32
+    ensures { result ≡ word_at words.now i }
 {
-    match code::taken_apart(numbers::quad_at(words, i * 4)) {
-        Apart::Word(_) => 0,
-        Apart::OutOfRange => 2,
-        Apart::Unlisted => 6,
-    }
+    numbers::quad_at(words, i as usize * 4)
 }
 
-// The first of n words with a number; n where there is none.
-fn first_with(words: &[u8], n: usize, k: u32) -> usize
-    requires { n ≤ 2048 }
-    ensures { result ≡ first_with k 0 (firsts (word_at words.now) 0 n) }
-{
-    let mut i = 0;
-    while i < n {
-        if number_at(words, i) == k {
-            return i;
-        }
-        i += 1;
-    }
-    i
-}
-
-// A line's bytes into the text.
-fn copy(text: &mut [u8], at: usize, line: &[u8])
-    requires { (length line.now ≤ 40) × (at ≤ 81920) }
-    ensures { text.new ≡ sets text.old at line.now }
-{
-    let mut i = 0;
-    while i < line.len() {
-        put(text, at + i, line[i]);
-        i += 1;
-    }
-}
-
-// The line of one word, as far as there is room, and where the next begins.
-#[tactic(auto, unfolding(crate::specs::Listed::word_line))]
-fn word_line(text: &mut [u8], at: usize, address: usize, word: u32) -> usize
-    requires { (address ≤ 2048) × (at ≤ 40 * address) }
-    ensures { Laid text.old at (word_line address word) 40 text.new result }
+// Whether a word is no listed one, and for this reason.
+fn is_unread(word: u32, why: Unread) -> bool
+    ensures { result ≡ (number_of (apart_of word) == number_of (Err why)) }
 {
     match code::taken_apart(word) {
-        Apart::Word(f) => {
-            let mut line = [0u8; 40];
-            let n = spelling::spelled(address as u32, f, &mut line);
-            copy(text, at, &line[..n]);
-            at + n
+        Ok(_) => false,
+        Err(e) => e == why,
+    }
+}
+
+// The first of n words that is no listed one for this reason.
+fn first_with(words: &[u8], n: u16, why: Unread) -> Option<u16>
+    ensures { result ≡ place_below n (first_with (number_of (Err why)) 0 (firsts (word_at words.now) 0 n)) }
+{
+    for i in 0..n {
+        if is_unread(word(words, i), why) {
+            return Some(i);
         }
-        Apart::OutOfRange => at,
-        Apart::Unlisted => at,
+    }
+    None
+}
+
+// The line of one word; no byte for one that isn't listed.
+fn word_line(address: u16, word: u32) -> Line
+    ensures { text_of result ≡ word_line address word }
+{
+    match code::taken_apart(word) {
+        Ok(f) => spelling::spelled(address as u32, f),
+        Err(_) => Line::new(),
     }
 }
 
 // The lines of n words, as far as there is room, and their length.
-#[tactic(auto, unfolding(crate::specs::Listed::listing_from, numbers::specs::Numbers::word_at))]
-fn listed(words: &[u8], n: usize, text: &mut [u8]) -> usize
-    requires { n ≤ 2048 }
-    ensures { Laid text.old 0 (listing_from 0 (firsts (word_at words.now) 0 n)) 81920 text.new result }
+fn listed(words: &[u8], n: u16, text: &mut [u8]) -> u32
+    ensures { Laid text.old 0 (listing_from 0 (firsts (word_at words.now) 0 n)) (40 * n) text.new result }
 {
     let mut at = 0;
-    let mut i = 0;
-    while i < n {
-        at = word_line(text, at, i, numbers::quad_at(words, i * 4));
-        i += 1;
+    for address in 0..n {
+        let line = word_line(address, word(words, address));
+        let bytes = line.as_bytes();
+        put(text, at as usize, bytes);
+        at += bytes.len() as u32;
     }
     at
 }
 
-// Nothing is written before all words are known to be listed and to have their room.
-pub fn list_words(words: &[u8], text: &mut [u8]) -> Report
-    ensures { (result ≡ listed_of words.now (length text.old)) × (text.new ≡ listed_into words.now text.old) }
+// Nothing is written before all words are known to be listed and to have their room. The length that is written.
+pub fn list_words(words: &[u8], text: &mut [u8]) -> Result<u32, WordsRefused>
+    ensures { (listed_report result ≡ listed_of words.now (length text.old)) × (text.new ≡ listed_into words.now text.old) }
 {
     let n = count(words);
-    let over = first_with(words, n, 2);
-    if over < n {
-        return told(2, over, 0);
+    if let Some(address) = first_with(words, n, Unread::OutOfRange) {
+        return Err(WordsRefused::Word {
+            address,
+            why: Unread::OutOfRange,
+        });
     }
     if !((words.len() % 4 == 0) & (words.len() <= 8192)) {
-        return told(2, 2048, 0);
+        return Err(WordsRefused::Length);
     }
-    let unlisted = first_with(words, n, 6);
-    if unlisted < n {
-        return told(6, unlisted, 0);
+    if let Some(address) = first_with(words, n, Unread::Unlisted) {
+        return Err(WordsRefused::Word {
+            address,
+            why: Unread::Unlisted,
+        });
     }
     let mut scratch = [0u8; 1];
     let needed = listed(words, n, &mut scratch);
-    if text.len() < needed {
-        return told(27, 0, needed);
+    if text.len() < needed as usize {
+        return Err(WordsRefused::Room { needed });
     }
     listed(words, n, text);
-    told(0, 0, needed)
+    Ok(needed)
 }

@@ -11,12 +11,26 @@ use listing::Report;
 pub extern "C" fn assemble(text: &[u8], words: &mut [u8]) -> Report
     ensures { (result ≡ assembled_of text.now (length words.old)) × (words.new ≡ assembled_into text.now words.old) }
 {
-    listing::assemble(text, words)
+    match listing::assemble(text, words) {
+        Ok(length) => Report {
+            answer: 0,
+            at: 0,
+            length,
+        },
+        Err(refused) => Report::from(refused),
+    }
 }
 
 #[unsafe(no_mangle)]
 pub extern "C" fn list_words(words: &[u8], text: &mut [u8]) -> Report
     ensures { (result ≡ listed_of words.now (length text.old)) × (text.new ≡ listed_into words.now text.old) }
 {
-    listing::list_words(words, text)
+    match listing::list_words(words, text) {
+        Ok(length) => Report {
+            answer: 0,
+            at: 0,
+            length,
+        },
+        Err(refused) => Report::from(refused),
+    }
 }

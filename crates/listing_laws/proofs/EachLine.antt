@@ -5,8 +5,7 @@ use mathlib.Core.List.{List, [], ◌∷◌}
 use native.Mathlib.Nat.{add-zero, zero-add}
 use native.Mathlib.Omega.{arith}
 use lib.ListN.{length, get_or}
-use Rattle.line.specs.Line.{line_of}
-use Rattle.line.specs.declared.Line.{Line}
+use Rattle.line.specs.Line.{Line, line_of}
 use Rattle.listing.specs.Listed.{listing_from}
 use Rattle.numbers.specs.Numbers.{Bytes}
 use Rattle.pieces.specs.Parts.{lines_of, pieces_of}

@@ -9,10 +9,10 @@ use native.Mathlib.Numerals.{add-one}
 use native.Mathlib.Omega.{arith}
 use lib.Dec.{eqb}
 use lib.ListN.{length, replicate}
+use Rattle.std.specs.Prelude.{Ok}
 use Rattle.choose.specs.Ranged.{pick, ranged}
 use Rattle.code.specs.CodeRows.{class_of}
 use Rattle.code.specs.Word.{apart_of, number_of, fields_in, operands_in}
-use Rattle.code.specs.declared.Apart.{Apart}
 use Rattle.code.specs.declared.Class.{Class}
 use Rattle.code.specs.declared.Fields.{Fields}
 use Rattle.code.specs.declared.Operands.{Operands}
@@ -73,7 +73,7 @@ plain-line l b = plain (pieces_of l) (filled-bytes (parts_of 32 l) (parts-bytes 
 abbrev nop : Fields
 nop = record { code = 0xFF; class = Class.Register; operands = Operands.Two 0 0; load_rr = false; rni = false; user = 0 }
 
-gap-apart : apart_of 0xFF00 ≡ Apart.Word nop
+gap-apart : apart_of 0xFF00 ≡ Ok nop
 unfolding apart_of fields_in operands_in class_of ranged
 gap-apart = refl
 

@@ -6,8 +6,9 @@ use mathlib.Core.Logic.{◌↔◌}
 use native.Mathlib.Omega.{arith}
 use lib.ListN.{length, take, drop}
 use lib.Seq.{take-append_seam}
-use Rattle.code.specs.Word.{apart_of, number_of}
-use Rattle.code.specs.declared.Apart.{Apart}
+use Rattle.std.specs.Prelude.{Ok, Err}
+use Rattle.code.specs.Word.{Apart, apart_of, number_of}
+use Rattle.code.specs.declared.Unread.{Unread}
 use Rattle.line.proofs.Laws.{not-zero}
 use Rattle.numbers.specs.Numbers.{Bytes}
 use Rattle.listing.proofs.Laws.{bytes-length}
@@ -27,9 +28,9 @@ use Rattle.listing_laws.proofs.Told.{assembles, lists}
 -- ---- words are listed where no number is 2 or 6
 
 neither : (a : Apart) → (number_of a ≡ 2 → ⊥) → (number_of a ≡ 6 → ⊥) → number_of a ≡ 0
-neither (Apart.Word f) two six = refl
-neither Apart.OutOfRange two six = absurd (two refl)
-neither Apart.Unlisted two six = absurd (six refl)
+neither (Ok f) two six = refl
+neither (Err Unread.OutOfRange) two six = absurd (two refl)
+neither (Err Unread.Unlisted) two six = absurd (six refl)
 
 none-listed : (ws : List ℕ) → None 2 (map (λ w. number_of (apart_of w)) ws) → None 6 (map (λ w. number_of (apart_of w)) ws) → Listed ws
 none-listed [] twos sixes = tt

@@ -6,10 +6,11 @@ use mathlib.Core.List.{List, [], ◌∷◌}
 use native.Mathlib.Omega.{arith}
 use lib.Dec.{eqb, ltb}
 use lib.ListN.{length}
+use Rattle.std.specs.Prelude.{Ok, Err}
 use Rattle.choose.specs.Ranged.{pick}
 use Rattle.choose.proofs.Choice.{pick_all}
-use Rattle.code.specs.Word.{apart_of}
-use Rattle.code.specs.declared.Apart.{Apart}
+use Rattle.code.specs.Word.{Apart, apart_of}
+use Rattle.code.specs.declared.Unread.{Unread}
 use Rattle.code.specs.declared.Fields.{Fields}
 use Rattle.forms.specs.declared.Form.{Form}
 use Rattle.listing.specs.Listed.{apart_line, word_line, listing_from}
@@ -68,9 +69,9 @@ unfolding word_line
 word_bytes address w = go (apart_of w)
   where
     go : (r : Apart) → Bytes (apart_line address r)
-    go (Apart.Word f) = line-bytes address f
-    go Apart.OutOfRange = tt
-    go Apart.Unlisted = tt
+    go (Ok f) = line-bytes address f
+    go (Err Unread.OutOfRange) = tt
+    go (Err Unread.Unlisted) = tt
 
 pub listing-bytes : (address : ℕ) (ws : List ℕ) → Bytes (listing_from address ws)
 unfolding listing_from

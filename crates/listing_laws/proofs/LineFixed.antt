@@ -8,11 +8,11 @@ use native.Mathlib.Omega.{arith}
 use lib.Dec.{eqb, ltb}
 use lib.ListN.{length, drop}
 use borrow.Author.Tests.{ltb-true, lt-ltb, le-ltb, ltb-false}
+use Rattle.std.specs.Prelude.{Ok}
 use Rattle.choose.specs.Ranged.{bit, pick, ranged}
 use Rattle.choose.proofs.Tests.{both_true}
 use Rattle.code.specs.CodeRows.{class_of, listed}
 use Rattle.code.specs.Word.{apart_of, operands_in, low_of}
-use Rattle.code.specs.declared.Apart.{Apart}
 use Rattle.code.proofs.Shape.{low-own}
 use Rattle.code.proofs.Laws.{together-apart}
 use Rattle.forms.specs.Forms.{form_of, joined_of}
@@ -21,8 +21,7 @@ use Rattle.forms.specs.declared.Form.{Form}
 use Rattle.forms.proofs.Laws.{twin}
 use Rattle.forms.proofs.Names.{names}
 use Rattle.forms.proofs.Operands.{joined, form-spans}
-use Rattle.line.specs.Line.{tail_with, tail_of, fields_for}
-use Rattle.line.specs.declared.Tail.{Tail}
+use Rattle.line.specs.Line.{Tail, tail_with, tail_of, fields_for}
 use Rattle.listing.specs.Listed.{word_line}
 use Rattle.names.specs.Mnemonics.{mnemonic_of, all_mnemonics}
 use Rattle.pieces.specs.Parts.{piece_of}
@@ -125,7 +124,7 @@ marks-after ps (two h g) b good = marks-respelled (drop 2 ps) (plain-drop 2 ps b
 
 -- ---- the line
 module _ (next : ℕ) (ps : List (List ℕ)) (a w : ℕ) (t : Taken next ps a w) where
-  pub comes-apart : apart_of w ≡ Apart.Word (fields_for (top_in ps) (tail_in ps))
+  pub comes-apart : apart_of w ≡ Ok (fields_for (top_in ps) (tail_in ps))
   comes-apart = together-apart _ w t.whole
 
   pub line-respelled : Plain ps → word_line a w ≡ line_fixed ps

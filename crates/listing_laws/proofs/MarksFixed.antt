@@ -11,8 +11,7 @@ use borrow.Author.Tests.{eqb-true, ltb-true, ltb-false, lt-ltb, le-ltb}
 use Rattle.choose.specs.Ranged.{pick}
 use Rattle.choose.proofs.Tests.{both_true}
 use Rattle.line.specs.Kinds.{kind_of, count_of, user_of}
-use Rattle.line.specs.Marks.{no_marks, user_in, marks_from}
-use Rattle.line.specs.declared.Marks.{Marks}
+use Rattle.line.specs.Marks.{Marks, no_marks, user_in, marks_from}
 use Rattle.line.proofs.EachOnce.{marks-exactly, marks-say}
 use Rattle.names.specs.Mnemonics.{letters_from}
 use Rattle.numbers.specs.Numbers.{Bytes}

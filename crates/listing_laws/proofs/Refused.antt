@@ -4,8 +4,7 @@ use mathlib.Core.Path.{◌≡◌, refl}
 use mathlib.Core.List.{List, [], ◌∷◌}
 use native.Mathlib.Nat.{add-zero}
 use native.Mathlib.Omega.{arith}
-use Rattle.line.specs.Line.{line_of}
-use Rattle.line.specs.declared.Line.{Line}
+use Rattle.line.specs.Line.{Line, line_of}
 use Rattle.line.proofs.Laws.{Number, bad-number}
 use Rattle.listing.specs.Assembled.{report_of, judged, refusal_from}
 use Rattle.listing.specs.declared.Report.{Report}

@@ -14,8 +14,7 @@ use Rattle.choose.proofs.Table.{below}
 use Rattle.choose.proofs.Tests.{both_left, both_right, holds, both_true}
 use Rattle.code.specs.CodeRows.{class_of, listed}
 use Rattle.forms.specs.Forms.{limit_of}
-use Rattle.line.specs.Marks.{no_marks, user_in, with_user, with_mark, marks_from}
-use Rattle.line.specs.declared.Marks.{Marks}
+use Rattle.line.specs.Marks.{Marks, no_marks, user_in, with_user, with_mark, marks_from}
 use Rattle.names.specs.Mnemonics.{mnemonic_of, letters_from}
 use Rattle.pieces.specs.Parts.{piece_of}
 use Rattle.pieces.proofs.Laws.{neither}

@@ -9,13 +9,13 @@ use native.Mathlib.Omega.{arith}
 use lib.Dec.{eqb}
 use lib.ListN.{length}
 use borrow.Author.Tests.{lt-ltb, le-leb, eqb-true}
+use Rattle.std.specs.Prelude.{Ok, Err, Some}
 use Rattle.choose.specs.Ranged.{bit, pick, ranged}
 use Rattle.choose.proofs.Tests.{both_true}
 use Rattle.code.specs.CodeRows.{class_of, listed}
-use Rattle.code.specs.Word.{top_of, code_of, apart_of, number_of, low_of, WellFormed}
-use Rattle.code.specs.declared.Apart.{Apart}
+use Rattle.code.specs.Word.{Apart, top_of, code_of, apart_of, number_of, low_of, WellFormed}
+use Rattle.code.specs.declared.Unread.{Unread}
 use Rattle.code.specs.declared.Fields.{Fields}
-use Rattle.code.specs.declared.Together.{Together}
 use Rattle.code.proofs.Laws.{apart-together, apart-well-formed, apart-number, cad-listed}
 use Rattle.code.proofs.Shape.{fit-listed, fit-room, read_back}
 use Rattle.code.proofs.Tops.{listed_below}
@@ -26,9 +26,7 @@ use Rattle.forms.proofs.Names.{named-first}
 use Rattle.forms.proofs.Operands.{Parted, parted, joined-again, form-spans}
 use Rattle.listing.specs.Assembled.{report_of, words_from, refusal_from}
 use Rattle.listing.specs.Listed.{word_line, listing_from}
-use Rattle.line.specs.Line.{tail_of, fits_form, fields_for, word_for, placed_of, line_of}
-use Rattle.line.specs.declared.Line.{Line}
-use Rattle.line.specs.declared.Tail.{Tail}
+use Rattle.line.specs.Line.{Tail, Line, tail_of, fits_form, fields_for, word_for, placed_of, line_of}
 use Rattle.names.specs.Mnemonics.{mnemonic_of}
 use Rattle.pieces.specs.Parts.{parts_of, lines_of, pieces_of}
 use Rattle.pieces.specs.Read.{name_of}
@@ -69,7 +67,7 @@ user-back user h = go (eqb user 0) refl
     go false e = omega arith
 
 -- a listed word, and its fields
-module _ (w : ℕ) (f : Fields) (e : apart_of w ≡ Apart.Word f) where
+module _ (w : ℕ) (f : Fields) (e : apart_of w ≡ Ok f) where
   well : WellFormed f
   well = apart-well-formed w f e
 
@@ -125,7 +123,7 @@ module _ (w : ℕ) (f : Fields) (e : apart_of w ≡ Apart.Word f) where
       let fits = operands-fit (form_of f.code) (low_of f.operands) (form-fair f.code code-listed) range marks in
       rw (even f.code).form (rw (marks-back (odd_of f.code) f.load_rr f.rni f.user well.in-range) at fits)
 
-  word_back : word_for (even_of f.code) tail ≡ Together.Word w
+  word_back : word_for (even_of f.code) tail ≡ Some w
   unfolding word_for tail
   word_back = rw (tail-fits, (even f.code).good, fields_back, apart-together w f e)
 
@@ -165,13 +163,13 @@ module _ (w : ℕ) (f : Fields) (e : apart_of w ≡ Apart.Word f) where
 -- ---- every word of a list, from an address on
 
 -- a listed word comes apart
-pub listed-fields : (w : ℕ) → number_of (apart_of w) ≡ 0 → (f : Fields) × (apart_of w ≡ Apart.Word f)
+pub listed-fields : (w : ℕ) → number_of (apart_of w) ≡ 0 → (f : Fields) × (apart_of w ≡ Ok f)
 listed-fields w n = go (apart_of w) refl n
   where
-    go : (a : Apart) → apart_of w ≡ a → number_of a ≡ 0 → (f : Fields) × (apart_of w ≡ Apart.Word f)
-    go (Apart.Word f) e n = (f, e)
-    go Apart.OutOfRange e n = absurd (omega arith)
-    go Apart.Unlisted e n = absurd (omega arith)
+    go : (a : Apart) → apart_of w ≡ a → number_of a ≡ 0 → (f : Fields) × (apart_of w ≡ Ok f)
+    go (Ok f) e n = (f, e)
+    go (Err Unread.OutOfRange) e n = absurd (omega arith)
+    go (Err Unread.Unlisted) e n = absurd (omega arith)
 
 -- CAD is listed
 pub cad-words : (w : ℕ) → w < 0x40_0000 → top_of w ≡ 0xAC → number_of (apart_of w) ≡ 0

@@ -7,8 +7,7 @@ use Rattle.forms.specs.Forms.{form_of}
 use Rattle.forms.specs.Named.{top_named}
 use Rattle.forms.specs.declared.Form.{Form}
 use Rattle.line.specs.Kinds.{kind_of, user_of}
-use Rattle.line.specs.Line.{tail_of}
-use Rattle.line.specs.declared.Tail.{Tail}
+use Rattle.line.specs.Line.{Tail, tail_of}
 use Rattle.names.specs.Mnemonics.{letters_from}
 use Rattle.pieces.specs.Parts.{lines_of, pieces_of, piece_of}
 use Rattle.pieces.specs.Read.{upper_of, name_of, value_of}

@@ -1,7 +1,6 @@
 -- Which line of a text is refused: "the first bad line decides".
 use Rattle.std.specs.Prelude.{ℕ, zero, suc, ◌+◌, ◌≡◌, List, [], ◌∷◌}
-use Rattle.line.specs.Line.{line_of}
-use Rattle.line.specs.declared.Line.{Line}
+use Rattle.line.specs.Line.{Line, line_of}
 use Rattle.pieces.specs.Parts.{pieces_of}
 
 -- a good line, and P of its address

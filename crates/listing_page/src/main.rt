@@ -3,26 +3,8 @@
 
 use code::Class;
 use forms::Form;
+use names::{Codes, Mnemonic};
 use std::io;
-
-// A name has no space between two letters.
-fn letters(rt: &impl Print, name: u32) -> io::Result<()> {
-    for letter in name.to_be_bytes() {
-        if letter != b' ' {
-            rt.print(char::from(letter))?;
-        }
-    }
-    Ok(())
-}
-
-fn codes(rt: &impl Print, top: u8, class: Class) -> io::Result<()> {
-    let last = match class {
-        Class::Jump => top | 0x07,
-        Class::Literal => top | 0x0F,
-        _ => return print!(rt; "{top:02X}"),
-    };
-    print!(rt; "{top:02X}-{last:02X}")
-}
 
 // Both designators, in the order in which they are typed, or one and the don't-care one.
 fn designators(form: Form) -> &'static str {
@@ -58,15 +40,16 @@ fn odd_code(rt: &impl Print, top: u8) -> io::Result<()> {
 // A line at a mnemonic's first top byte.
 fn line(rt: &impl Print, top: u8) -> io::Result<()> {
     let name = names::mnemonic_of(top);
-    if forms::top_named(name) != top as usize {
+    if forms::top_named(name) != Some(top) {
         return Ok(());
     }
     let class = code::class_of(top);
-    print!(rt; "| ")?;
-    letters(rt, name)?;
-    print!(rt; " | ")?;
-    codes(rt, top, class)?;
-    print!(rt; " | {} | ", operands(class, forms::form_of(top)))?;
+    print!(rt;
+        "| {} | {} | {} | ",
+        Mnemonic(name),
+        Codes { class, top },
+        operands(class, forms::form_of(top))
+    )?;
     odd_code(rt, top)?;
     println!(rt; " |")
 }

@@ -2,10 +2,12 @@
 use Prim.Native.Nat.{ℕ}
 use mathlib.Core.Path.{◌≡◌, refl}
 use mathlib.Core.List.{List}
+use Rattle.std.specs.Prelude.{Ok, Err}
 use Rattle.attempt.specs.Attempt.{executed_of, checked_of, taken_of, fetched_of, attempted_of, attempt_of}
 use Rattle.attempt.specs.Effect.{register_effect, effect_of}
 use Rattle.checks.specs.Checks.{word_refusal_of}
-use Rattle.code.specs.declared.Apart.{Apart}
+use Rattle.code.specs.Word.{Apart}
+use Rattle.code.specs.declared.Unread.{Unread}
 use Rattle.code.specs.declared.Operands.{Operands}
 use Rattle.control.specs.Bus.{rmw_of}
 use Rattle.execute.specs.Execute.{operation_of, conditioned_of, input_of, registers_of}
@@ -27,9 +29,9 @@ module _ (k : Core) (base : k.marking ≡ Marking.CP1661B) (xs : List ℕ) (s : 
 
   same_taken : (x : Apart) (o : Outputs) → taken_of x o xs k s ≡ taken_by high_of word_refusal_of rmw_before x o xs k s
   unfolding checked_of executed_of
-  same_taken (Apart.Word w) o = rw (same_effect w.code w.operands)
-  same_taken Apart.OutOfRange o = refl
-  same_taken Apart.Unlisted o = refl
+  same_taken (Ok w) o = rw (same_effect w.code w.operands)
+  same_taken (Err Unread.OutOfRange) o = refl
+  same_taken (Err Unread.Unlisted) o = refl
 
   pub base-as-before : (ws : List ℕ) (rs : List Row) → attempt_of ws rs xs k s ≡ attempt_of_base ws rs xs k s
   unfolding attempt_of attempted_of fetched_of

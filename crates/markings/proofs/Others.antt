@@ -6,14 +6,15 @@ use mathlib.Core.Bool.{Bool, true, false, false≢true}
 use mathlib.Core.List.{List, [], ◌∷◌}
 use lib.Dec.{eqb, ltb}
 use lib.ListN.{length}
-use Rattle.attempt.specs.Attempt.{outcome_of, executed_of, checked_of, reset_of, modified_of, taken_of, fetched_of, attempted_of, outputs_of, attempt_of}
+use Rattle.std.specs.Prelude.{Ok, Err}
+use Rattle.attempt.specs.Attempt.{executed_of, checked_of, reset_of, modified_of, taken_of, fetched_of, attempted_of, outputs_of, attempt_of}
 use Rattle.attempt.specs.Effect.{jumped_of, literal_effect, register_effect, effect_of}
 use Rattle.attempt.specs.declared.Effect.{Effect}
-use Rattle.attempt.specs.declared.Outcome.{Outcome}
+use Rattle.attempt.specs.Outcome.{Outcome, outcome_of}
 use Rattle.checks.specs.Checks.{word_refusal_of, waiting_of}
 use Rattle.choose.specs.Ranged.{pick, ranged}
-use Rattle.code.specs.Word.{apart_of}
-use Rattle.code.specs.declared.Apart.{Apart}
+use Rattle.code.specs.Word.{Apart, apart_of}
+use Rattle.code.specs.declared.Unread.{Unread}
 use Rattle.code.specs.declared.Fields.{Fields}
 use Rattle.code.specs.declared.Operands.{Operands}
 use Rattle.control.specs.Bus.{after_input, bus_after}
@@ -112,12 +113,12 @@ module _ (k : Core) (m n : Marking) (x y x' y' : Bool) (xs : List ℕ) (s : Samp
 
   taken-same : (a : Apart) (o : Outputs) → SameButLines (taken_of a o xs one s) (taken_of a o xs other s)
   unfolding checked_of
-  taken-same (Apart.Word w) o =
+  taken-same (Ok w) o =
       chosen (eqb (word_refusal_of w.code w.operands) 0) _ _ _ _
       (chosen (waiting_of w.code s) _ _ _ _ (as_it_was _ _ _) (executed-same w o))
       (as_it_was _ _ _)
-  taken-same Apart.OutOfRange o = as_it_was _ _ _
-  taken-same Apart.Unlisted o = as_it_was _ _ _
+  taken-same (Err Unread.OutOfRange) o = as_it_was _ _ _
+  taken-same (Err Unread.Unlisted) o = as_it_was _ _ _
 
   attempt-same : (ws : List ℕ) (rs : List Row) → SameButLines (attempt_of ws rs xs one s) (attempt_of ws rs xs other s)
   unfolding attempt_of attempted_of fetched_of outputs_of inputs_of

@@ -1,6 +1,6 @@
 -- The chip's marking: the attempt as it was before 02's L14, and what two sets that differ in their marking alone have in common.
 use Rattle.std.specs.Prelude.{ℕ, ◌/◌, ◌%◌, ◌≡◌, Bool, List, eqb}
-use Rattle.attempt.specs.declared.Outcome.{Outcome}
+use Rattle.attempt.specs.Outcome.{Outcome}
 use Rattle.checks.specs.Checks.{word_refusal_of}
 use Rattle.engine.specs.Run.{World}
 use Rattle.pairs.specs.Before.{attempt_by}

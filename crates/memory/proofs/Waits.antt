@@ -7,18 +7,19 @@ use native.Mathlib.Omega.{arith}
 use lib.Dec.{eqb, ltb}
 use lib.ListN.{length, get_or}
 use borrow.Author.Tests.{ltb-true, ltb-false}
+use Rattle.std.specs.Prelude.{Ok, Err}
 use Rattle.choose.specs.Ranged.{pick, ranged}
 use Rattle.choose.proofs.Ranged.{in-arm, in_rest}
 use Rattle.attempt.specs.Attempt.{when_refused, when_idle, reset_of, modified_of}
 use Rattle.attempt.specs.Effect.{literal_effect, register_effect}
 use Rattle.attempt.specs.Lent.{done_by, two_by, checked_two_by, checked_kind, taken_by, word_by, fetched_by, attempt_by}
-use Rattle.attempt.specs.declared.Outcome.{Outcome}
+use Rattle.attempt.specs.Outcome.{Outcome}
 use Rattle.bus_memory.specs.Memory.{kind_in, transfers}
 use Rattle.checks.specs.Asked.{refusal_by, waiting_by}
 use Rattle.code.specs.CodeRows.{listed}
 use Rattle.code.specs.Entries.{row_of_entry}
 use Rattle.code.specs.Word.{top_of, operands_in, fields_in, apart_as}
-use Rattle.code.specs.declared.Apart.{Apart}
+use Rattle.code.specs.declared.Unread.{Unread}
 use Rattle.code.specs.declared.Class.{Class}
 use Rattle.code.specs.declared.CodeRow.{CodeRow}
 use Rattle.code.specs.declared.Fields.{Fields}
@@ -83,7 +84,7 @@ module _ (xs : List ℕ) (k : Core) (s : Sample) (small : s.dal < 0x1_0000) wher
       (fields_in Class.Register word) (word / 0x10 % 0x10) (word % 0x10) o is waits
 
   apart-keeps : (t u : Bool) (c : Class) (word : ℕ) (row : CodeRow) (o : Outputs) → Transfer (top_of word)
-      → Keeps (taken_by (pick t (pick u (Apart.Word (fields_in c word)) Apart.Unlisted) Apart.OutOfRange) row o xs k s)
+      → Keeps (taken_by (pick t (pick u (Ok (fields_in c word)) (Err Unread.Unlisted)) (Err Unread.OutOfRange)) row o xs k s)
   unfolding fields_in
   apart-keeps true true c word row o is waits = class-keeps c word row o is waits
   apart-keeps true false c word row o is waits = refl

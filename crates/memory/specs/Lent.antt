@@ -1,16 +1,16 @@
 -- What the code's loop has so far, as a run with a memory has it, and an attempt by the tables that are lent. This is the code's way only; `same-run` says that
 -- by THE table and rows in range it is the run of 01 and 02.
-use Rattle.std.specs.Prelude.{ℕ, ◌+◌, Bool, false, List, eqb}
+use Rattle.std.specs.Prelude.{ℕ, Bool, false, ◌&&◌, List, eqb}
 use Rattle.choose.specs.Ranged.{pick}
 use Rattle.attempt.specs.Lent.{attempt_by, inputs_by}
-use Rattle.attempt.specs.declared.Outcome.{Outcome}
-use Rattle.bus_memory.specs.Memory.{kind_in, transfers, kept_after}
+use Rattle.attempt.specs.Outcome.{Outcome, outcome_of}
+use Rattle.bus_memory.specs.Memory.{kind_in, transfers, stuck_of}
 use Rattle.bus_memory.specs.declared.Kept.{Kept}
-use Rattle.engine.specs.RunEnds.{run_end, world_of}
-use Rattle.engine.specs.declared.RunEnd.{RunEnd}
+use Rattle.engine.specs.RunEnds.{world_of}
 use Rattle.rows.specs.Packing.{scan_in}
 use Rattle.rows.specs.declared.Outputs.{Outputs}
 use Rattle.rows.specs.declared.Packed.{Packed}
+use Rattle.state.specs.File.{Leaves, leaves}
 use Rattle.state.specs.declared.Core.{Core}
 use Rattle.state.specs.declared.Sample.{Sample}
 use Rattle.memory.specs.Run.{Together, together, Attempts, code_at, next_of, seen_by}
@@ -20,16 +20,12 @@ use Rattle.memory.specs.declared.Ran.{Ran}
 unfoldable pub transfer_of : List ℕ → Core → ℕ → Bool
 transfer_of ws k request = pick (eqb (kind_in request) 10) (transfers (code_at ws k)) false
 
-abbrev pub ran_of : RunEnd → Kept → Ran
-ran_of e k = record { end = e; kept = k }
+-- an attempt that is refused by 17, and one that left e: so is it "in place of a 33rd IB, IW, OB or OW wait in a row"
+abbrev pub by_17 : Core → List ℕ → Leaves Outcome
+by_17 k xs = leaves xs (outcome_of k 0 0 17)
 
--- after an attempt that was refused, and after one that counts
-abbrev pub stopped_ran : Ran → ℕ → Ran
-stopped_ran r number = ran_of (run_end r.end.core number r.end.attempts r.end.microcycles) r.kept
-
-abbrev pub taken_ran : ℕ → Ran → Bool → Outcome → Ran
-taken_ran delay r transfer made =
-    ran_of (run_end made.core 0 (r.end.attempts + 1) (r.end.microcycles + made.cycles)) (kept_after delay r.kept transfer made.request)
+unfoldable pub with_17 : List ℕ → ℕ → Kept → Core → List ℕ → Leaves Outcome → Leaves Outcome
+with_17 ws size kept k xs e = pick (eqb e.back.refusal 0 && stuck_of size kept (transfers (code_at ws k)) e.back.request) (by_17 k xs) e
 
 -- with the registers, the places and the memory's bytes
 abbrev pub together_of : Ran → List ℕ → List ℕ → List ℕ → Together

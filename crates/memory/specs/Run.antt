@@ -2,7 +2,7 @@
 use Rattle.std.specs.Prelude.{ℕ, List, [], ◌∷◌, eqb, length}
 use Rattle.choose.specs.Ranged.{pick}
 use Rattle.attempt.specs.Attempt.{attempt_of, modified_of}
-use Rattle.attempt.specs.declared.Outcome.{Outcome}
+use Rattle.attempt.specs.Outcome.{Outcome}
 use Rattle.bus_memory.specs.Memory.{transfers, seen_of, stored_in, kept_after, stuck_of}
 use Rattle.bus_memory.specs.declared.Kept.{Kept}
 use Rattle.code.specs.Word.{top_of}

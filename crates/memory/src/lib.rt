@@ -1,20 +1,23 @@
 // The run with a memory on the bus, and the bench host's entry to it.
 #![tactic(auto)]
 
-ghost use Rattle.std.specs.Prelude.{◌≡◌, ◌*◌, ◌+◌, ◌<◌, ◌≤◌, length};
+ghost use Rattle.std.specs.Prelude.{◌≡◌, ◌*◌, ◌+◌, ◌≤◌, length};
+ghost use Rattle.attempt.specs.Lent.{attempt_by};
+ghost use Rattle.attempt.specs.Outcome.{outcome};
+ghost use Rattle.bus_memory.specs.Memory.{nothing_kept, seen_of};
 ghost use Rattle.deck.specs.Elements.{sample_at};
+ghost use Rattle.engine.specs.Host.{hosted};
 ghost use Rattle.engine.specs.Run.{world, put4_of, samples_from};
-ghost use Rattle.engine.specs.RunEnds.{inputs_for, lent_rows};
-ghost use Rattle.engine.specs.Host.{hosted, reported};
-ghost use Rattle.rows.specs.Packing.{key_of};
-ghost use Rattle.bus_memory.specs.Memory.{nothing_kept, seen_of, stored_in};
-ghost use Rattle.memory.specs.Run.{code_at, together, run_by};
-ghost use Rattle.memory.specs.Lent.{transfer_of, ran_of, stopped_ran, taken_ran, together_of, next_by, attempts_by};
+ghost use Rattle.engine.specs.RunEnds.{lent_rows};
 ghost use Rattle.memory.specs.Host.{remembered, host_with};
+ghost use Rattle.memory.specs.Lent.{transfer_of, with_17, together_of, attempts_by};
+ghost use Rattle.memory.specs.Run.{code_at, together, run_by};
+ghost use Rattle.state.specs.File.{leaves};
 
-use attempt::Outcome;
+use attempt::Done;
 use bus_memory::Kept;
 use engine::{Report, RunEnd};
+use refusals::Refusal;
 use rows::Outputs;
 use state::{Core, Sample};
 
@@ -25,12 +28,8 @@ pub struct Ran {
     pub kept: Kept,
 }
 
-fn ran_with(end: RunEnd, kept: Kept) -> Ran
-    ensures { result ≡ ran_of end kept }
-{
-    Ran { end, kept }
-}
-
+// As the engine's own, and so is `sample`: they ask of their caller that the place is there, so neither is public (B5), and a test in
+// its place would cost each attempt.
 #[tactic(auto, unfolding(engine::specs::Run::put4_of))]
 fn put4(b: &mut [u8], at: usize, x: u32)
     requires { at + 4 ≤ length b.old }
@@ -52,19 +51,6 @@ fn sample(samples: &[u8], i: usize) -> Sample
         samples[i * 4 + 2],
         samples[i * 4 + 3],
     )
-}
-
-// What m rows are matched against in the next attempt. Without rows nothing is looked at.
-#[tactic(auto, unfolding(engine::specs::RunEnds::inputs_for, rows::specs::Packing::side_by_side))]
-fn key(words: &[u8], samples: &[u8], at: RunEnd, m: usize) -> u32
-    requires { at.attempts * 4 + 4 ≤ length samples.now }
-    ensures { result ≡ key_of (inputs_for m words.now at.core (sample_at samples.now at.attempts)) }
-{
-    if m == 0 {
-        return 0;
-    }
-    let core = at.core;
-    rows::key(attempt::inputs(words, core, sample(samples, at.attempts)))
 }
 
 // The code of the word at LC, with a waiting modification.
@@ -99,80 +85,33 @@ fn transfer(words: &[u8], core: Core, request: u32) -> bool
     false
 }
 
-// An attempt is refused: all stays.
-fn stopped(at: Ran, number: u8) -> Ran
-    ensures { result ≡ stopped_ran at number }
-{
-    let end = at.end;
-    let core = end.core;
-    ran_with(
-        engine::run_end(core, number, end.attempts, end.microcycles),
-        at.kept,
-    )
-}
-
-// An attempt counts: its request has its place, and the memory takes it.
-fn taken(
-    delay: u8,
-    memory: &mut [u8],
-    requests: &mut [u8],
-    at: Ran,
-    transfer: bool,
-    made: Outcome,
-) -> Ran
-    requires { (at.end.attempts < 65535) × (at.end.microcycles ≤ 255 * at.end.attempts) × (at.end.attempts * 4 + 4 ≤ length requests.old) }
-    ensures counted { result.end.microcycles ≤ 255 * result.end.attempts }
-    ensures left { result ≡ taken_ran delay at transfer made }
-    ensures placed { requests.new ≡ put4_of requests.old (at.end.attempts * 4) made.request }
-    ensures stored { memory.new ≡ stored_in memory.old at.kept made.request }
-{
-    let kept = at.kept;
-    let before = at.end;
-    let i = before.attempts;
-    let spent = before.microcycles;
-    let request = made.request;
-    bus_memory::store(memory, kept, request);
-    put4(requests, i * 4, request);
-    let core = made.core;
-    let end = engine::run_end(core, 0, i + 1, spent + made.cycles as u32);
-    ran_with(end, bus_memory::after(delay, kept, transfer, request))
-}
-
-// One more attempt.
-#[tactic(auto, unfolding(crate::specs::Run::seen_by))]
+// An attempt with the memory's lines, refused by 17 too.
+#[tactic(auto, unfolding(crate::specs::Lent::with_17))]
 fn attempted(
     codes: &[u32; 256],
     words: &[u8],
-    samples: &[u8],
     o: Outputs,
-    delay: u8,
-    memory: &mut [u8],
-    requests: &mut [u8],
+    memory: &[u8],
+    kept: Kept,
     file: &mut [u8; 26],
-    at: Ran,
-) -> Ran
-    requires { (at.end.attempts < 65535) × (at.end.microcycles ≤ 255 * at.end.attempts) × (at.end.attempts * 4 + 4 ≤ length samples.now) × (at.end.attempts * 4 + 4 ≤ length requests.old) }
-    ensures counted { result.end.microcycles ≤ 255 * result.end.attempts }
-    ensures next { together_of result file.new requests.new memory.new ≡ next_by codes.now words.now o delay (sample_at samples.now at.end.attempts) (together_of at file.old requests.old memory.old) }
+    core: Core,
+    external: Sample,
+) -> Result<Done, Refusal>
+    ensures { leaves file.new (outcome core result) ≡ with_17 words.now (length memory.now) kept core file.old (attempt_by codes.now words.now o file.old core (seen_of memory.now kept core.bus.sync (code_at words.now core) external)) }
 {
-    let before = at.end;
-    let kept = at.kept;
-    let core = before.core;
-    let i = before.attempts;
-    let seen = seen(words, memory, kept, core, sample(samples, i));
-    let made = attempt::attempt(codes, words, o, file, core, seen);
-    let answer = made.refusal;
-    if answer != 0 {
-        return stopped(at, answer);
+    let seen = seen(words, memory, kept, core, external);
+    let done = match attempt::attempt(codes, words, o, file, core, seen) {
+        Ok(done) => done,
+        Err(refusal) => return Err(refusal),
+    };
+    let transfer = transfer(words, core, done.request);
+    if bus_memory::stuck(memory.len(), kept, transfer, done.request) {
+        return Err(Refusal::NoReply);
     }
-    let transfer = transfer(words, core, made.request);
-    if bus_memory::stuck(memory.len(), kept, transfer, made.request) {
-        return stopped(at, 17);
-    }
-    taken(delay, memory, requests, at, transfer, made)
+    Ok(done)
 }
 
-// An attempt for each of n samples, until one is refused. The rows are made a table once, which this loop reads in its own place.
+// An attempt for each of n samples, until one is refused; the memory takes the request of each that counts.
 fn attempts(
     codes: &[u32; 256],
     words: &[u8],
@@ -186,43 +125,42 @@ fn attempts(
     n: usize,
 ) -> Ran
     requires { (n ≤ 65535) × (n * 4 ≤ length requests.old) × (n * 4 ≤ length samples.now) }
-    ensures short { result.end.attempts ≤ n }
-    ensures whole { together_of result file.new requests.new memory.new ≡ run_by (attempts_by codes.now words.now (lent_rows part.now)) words.now delay (samples_from samples.now 0 n) (together (world file.old first 0 0 0 requests.old) memory.old nothing_kept) }
+    ensures { together_of result file.new requests.new memory.new ≡ run_by (attempts_by codes.now words.now (lent_rows part.now)) words.now delay (samples_from samples.now 0 n) (together (world file.old first 0 0 0 requests.old) memory.old nothing_kept) }
 {
     let table = rows::load(part);
     let m = rows::whole(part);
-    let mut at = ran_with(engine::run_end(first, 0, 0, 0), bus_memory::nothing());
-    while engine::going(at.end, n) {
-        let key = key(words, samples, at.end, m);
-        let mut o: u32 = 0;
-        let mut k = 0;
-        while k < m {
-            o = rows::merged(o, table[k], key);
-            k = k + 1;
-        }
-        at = attempted(
-            codes,
-            words,
-            samples,
-            rows::unpacked(o),
-            delay,
-            memory,
-            requests,
-            file,
-            at,
-        );
+    let mut core = first;
+    let mut microcycles: u32 = 0;
+    let mut kept = bus_memory::nothing();
+    for i in 0..n {
+        let external = sample(samples, i);
+        let o = rows::scan(&table[..m], engine::inputs(words, core, external, m));
+        let done = match attempted(codes, words, o, memory, kept, file, core, external) {
+            Ok(done) => done,
+            Err(refusal) => {
+                let end = RunEnd {
+                    core,
+                    answer: Some(refusal),
+                    attempts: i as u32,
+                    microcycles,
+                };
+                return Ran { end, kept };
+            }
+        };
+        let transfer = transfer(words, core, done.request);
+        bus_memory::store(memory, kept, done.request);
+        put4(requests, i * 4, done.request);
+        kept = bus_memory::after(delay, kept, transfer, done.request);
+        core = done.core;
+        microcycles += done.cycles as u32;
     }
-    at
-}
-
-fn refused(number: u8) -> Report
-    ensures { result ≡ reported number 0 0 }
-{
-    Report {
-        answer: number as u32,
-        attempts: 0,
-        microcycles: 0,
-    }
+    let end = RunEnd {
+        core,
+        answer: None,
+        attempts: n as u32,
+        microcycles,
+    };
+    Ran { end, kept }
 }
 
 // The bench host's entry with a memory on the bus: beside what a run takes, the memory's bytes and how many attempts after an
@@ -237,28 +175,23 @@ pub fn run_with_memory(
 ) -> Report
     ensures { remembered (hosted result requests.new state.new) memory.new ≡ host_with deck.now memory.old delay requests.old state.old marking }
 {
-    let opened = deck::open(deck, requests.len(), state.len(), marking);
-    let number = opened.refusal;
-    if number != 0 {
-        return refused(number);
-    }
-    let l = opened.layout;
-    let bad = bus_memory::refusal(memory.len(), delay);
-    if bad != 0 {
-        return refused(bad);
+    let opened = match deck::open(deck, requests.len(), state.len(), marking) {
+        Ok(opened) => opened,
+        Err(refusal) => return Report::from(refusal),
+    };
+    let parts = opened.deck;
+    if let Some(refusal) = bus_memory::refusal(memory.len(), delay) {
+        return Report::from(refusal);
     }
     let mut file = [0u8; 26];
-    let chip = state::marking_of(marking);
-    let core = state_bytes::load(deck::state(deck, l), chip, &mut file);
+    let core = state_bytes::load(parts.state, opened.marking, &mut file);
     let codes = code::rows();
-    let part = deck::rows(deck, l);
-    let samples = deck::samples(deck, l);
-    let n = samples.len() / 4;
+    let n = parts.samples.len() / 4;
     let ran = attempts(
         &codes,
-        deck::words(deck, l),
-        part,
-        samples,
+        parts.words,
+        parts.rows,
+        parts.samples,
         delay as u8,
         memory,
         requests,
@@ -266,12 +199,6 @@ pub fn run_with_memory(
         core,
         n,
     );
-    let end = ran.end;
-    let after = end.core;
-    state_bytes::store(after, &file, state);
-    Report {
-        answer: end.answer as u32,
-        attempts: end.attempts as u32,
-        microcycles: end.microcycles,
-    }
+    state_bytes::store(ran.end.core, &file, state);
+    Report::from(ran.end)
 }

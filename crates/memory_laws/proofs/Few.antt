@@ -8,9 +8,9 @@ use borrow.Author.Tests.{lt-leb}
 use lib.Dec.{eqb, leb}
 use lib.ListN.{length}
 use Rattle.attempt.specs.Attempt.{attempt_of}
-use Rattle.attempt.specs.declared.Outcome.{Outcome}
+use Rattle.attempt.specs.Outcome.{Outcome}
 use Rattle.attempt_laws.proofs.Never.{from-seven, attempt-never}
-use Rattle.bus_memory.specs.Memory.{accesses, transfer_waits, waits_after, kept_after, stuck_of, transfers}
+use Rattle.bus_memory.specs.Memory.{accessed, kept_address, accesses, transfer_waits, waits_after, kept_after, stuck_of, transfers}
 use Rattle.bus_memory.specs.declared.Kept.{Kept}
 use Rattle.choose.proofs.Choice.{pick_all}
 use Rattle.deck.specs.Sections.{samples_part}
@@ -31,7 +31,7 @@ one-false false c d = refl
 -- after fewer than 32 waits in a row an attempt is not refused by 17
 not_stuck : (size request : ℕ) (transfer : Bool) (k : Kept) → k.waits < 32 → stuck_of size k transfer request ≡ false
 unfolding stuck_of
-not_stuck size request transfer k l = rw (lt-leb 32 k.waits l) (one-false (transfer_waits transfer request) k.accessed (leb size k.address))
+not_stuck size request transfer k l = rw (lt-leb 32 k.waits l) (one-false (transfer_waits transfer request) (accessed k) (leb size (kept_address k)))
 
 -- an attempt is at most one wait more
 one-wait : (delay request : ℕ) (transfer : Bool) (k : Kept) → (kept_after delay k transfer request).waits ≤ k.waits + 1

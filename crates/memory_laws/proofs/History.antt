@@ -8,7 +8,7 @@ use lib.Dec.{ltb, leb}
 use lib.ListN.{length, get_or}
 use borrow.Author.Tests.{le-leb, lt-leb, ltb-true, ltb-false}
 use Rattle.attempt_laws.specs.Fate.{within}
-use Rattle.bus_memory.specs.Memory.{nothing_kept, even_of, word_in, data_of, seen_of}
+use Rattle.bus_memory.specs.Memory.{nothing_kept, kept_address, even_of, word_in, data_of, seen_of}
 use Rattle.bus_memory.specs.declared.Kept.{Kept}
 use Rattle.memory.specs.Run.{Together, code_at, seen_by}
 use Rattle.rows.specs.Range.{rows_in_range}
@@ -19,7 +19,7 @@ use Rattle.memory_laws.specs.History.{is_access, kind, value, lines_for, accesse
 use Rattle.memory_laws.specs.History.{address_before, since_access, stores_at, byte_before, LastStore, NoStore}
 use Rattle.memory_laws.specs.Attempts.{together_after, seen_at, code_before, request_at}
 use Rattle.memory_laws.proofs.Inputs.{takes-in, takes-status, puts_word, puts-byte}
-use Rattle.memory_laws.proofs.Kept.{data-stay, code_below, kept-is, bytes-are, reply-is}
+use Rattle.memory_laws.proofs.Kept.{data-stay, code_below, kept-is, address-is, bytes-are, reply-is}
 use Rattle.memory_laws.proofs.Range.{AllInRange, fair-after, seen-fair}
 use Rattle.memory_laws.proofs.Words.{input-is}
 
@@ -143,7 +143,7 @@ module _ (ws : List ℕ) (rs : List Row) (delay : ℕ) (at : ℕ → Sample) (fi
       unfolding code_at
       taken = takes-in ws rs _ _ s state-fair sample-fair five
 
-      seen-word : s.dal ≡ word_in (after i).bytes (after i).kept.address
+      seen-word : s.dal ≡ word_in (after i).bytes (kept_address (after i).kept)
       unfolding seen_by seen_of data_of
       seen-word = rw (taken.1, input-is (code_before ws rs delay at first i) (code_below ws (after i).world.core), taken.0)
 
@@ -153,7 +153,7 @@ module _ (ws : List ℕ) (rs : List Row) (delay : ℕ) (at : ℕ → Sample) (fi
       input-takes =
           let a = address_before r i in
           let there = replied i taken.1 in
-          let address : (after i).kept.address ≡ a = ap (λ (k : Kept). k.address) (kept-is ws rs delay at first begins i) in
+          let address : kept_address (after i).kept ≡ a = ap kept_address (kept-is ws rs delay at first begins i) ∙ address-is r i in
           let low = bytes-are ws rs delay at first begins (even_of a) (omega (arith, there.2)) i in
           let high = bytes-are ws rs delay at first begins (even_of a + 1) (omega (arith, there.2)) i in
           (there.0, there.2, taken.2 ∙ seen-word ∙ rw (address, low, high))

@@ -12,7 +12,7 @@ use Rattle.choose.proofs.Choice.{pick_all}
 use Rattle.choose.proofs.Table.{below}
 use Rattle.choose.proofs.Tests.{holds}
 use Rattle.attempt.specs.Attempt.{attempt_of, outputs_of}
-use Rattle.attempt.specs.declared.Outcome.{Outcome}
+use Rattle.attempt.specs.Outcome.{Outcome}
 use Rattle.attempt_laws.specs.Fate.{Fate, refused, waited, reset, compute-low, completed, within, no_code}
 use Rattle.attempt_laws.specs.Fate.{no_option, must_wait, top_in, a_in, b_in, taken_word, word_fate, fate_of, EndsAs}
 use Rattle.attempt_laws.specs.After.{pair_in, kind_of, value_of}

@@ -8,6 +8,7 @@ use lib.Dec.{eqb, ltb, leb}
 use lib.ListN.{length, get_or}
 use borrow.Author.Tests.{eq-eqb, ne_eqb, eqb-true, leb-true, leb-false, le-leb, lt-leb}
 use Rattle.choose.specs.Ranged.{pick}
+use Rattle.std.specs.Prelude.{Option, Some, None, is_some, unwrap_or}
 use Rattle.bus_memory.specs.Memory.{data_of, kept_of, nothing_kept, accesses, transfers, transfer_waits, waits_after, kept_after, stuck_of, reply_of, seen_of}
 use Rattle.bus_memory.specs.declared.Kept.{Kept}
 use Rattle.bus_memory.proofs.Laws.{stored-length}
@@ -25,19 +26,24 @@ pub code_below : (ws : List ℕ) (k : Core) → code_at ws k < 0x100
 unfolding code_at
 code_below ws k = omega arith
 
+-- the address of an access, if there was one
+abbrev pub access_of : Bool → ℕ → Option ℕ
+access_of accessed address = pick accessed (Some address) None
+
 -- one attempt more, of what is kept: whether it is an access, and whether it is a wait of IB, IW, OB or OW
 module _ (delay address since waits : ℕ) (transfer : Bool) (request : ℕ) where
   keeps-by : (t w accessed : Bool) → accesses request ≡ t → transfer_waits transfer request ≡ w → (t ≡ true → w ≡ false)
-      → kept_after delay (kept_of accessed address (pick accessed (delay - since) 0) (min waits 32)) transfer request
-      ≡ kept_of (t || accessed) (pick t (value request) address) (pick (t || accessed) (delay - pick t 0 (since + 1)) 0) (min (pick w (waits + 1) 0) 32)
+      → kept_after delay (kept_of (access_of accessed address) (pick accessed (delay - since) 0) (min waits 32)) transfer request
+      ≡ kept_of (access_of (t || accessed) (pick t (value request) address)) (pick (t || accessed) (delay - pick t 0 (since + 1)) 0)
+      (min (pick w (waits + 1) 0) 32)
   unfolding kept_after waits_after
   keeps-by true true accessed e f apart = absurd (false≢true (sym (apart refl)))
-  keeps-by true false accessed e f apart = rw e (ap (λ (n : ℕ). kept_of true (value request) n 0) (omega arith))
+  keeps-by true false accessed e f apart = rw e (ap (λ (n : ℕ). kept_of (Some (value request)) n 0) (omega arith))
   keeps-by false true true e f apart =
-      rw (e, f) (ap (λ (n : ℕ). kept_of true address n (min (min waits 32 + 1) 32)) (omega arith)
-      ∙ ap (kept_of true address (delay - (since + 1))) (omega arith))
-  keeps-by false true false e f apart = rw (e, f) (ap (kept_of false address 0) (omega arith))
-  keeps-by false false true e f apart = rw (e, f) (ap (λ (n : ℕ). kept_of true address n 0) (omega arith))
+      rw (e, f) (ap (λ (n : ℕ). kept_of (Some address) n (min (min waits 32 + 1) 32)) (omega arith)
+      ∙ ap (kept_of (Some address) (delay - (since + 1))) (omega arith))
+  keeps-by false true false e f apart = rw (e, f) (ap (kept_of None 0) (omega arith))
+  keeps-by false false true e f apart = rw (e, f) (ap (λ (n : ℕ). kept_of (Some address) n 0) (omega arith))
   keeps-by false false false e f apart = rw (e, f)
 
 -- no access is a wait
@@ -49,8 +55,8 @@ access-no-wait request code is = go (eqb (kind request) 10) refl
     go false e = refl
 
 keeps_on : (delay : ℕ) (accessed : Bool) (address since waits code request : ℕ) → code < 0x100
-    → kept_after delay (kept_of accessed address (pick accessed (delay - since) 0) (min waits 32)) (transfers code) request
-    ≡ kept_of (is_access request || accessed) (pick (is_access request) (value request) address)
+    → kept_after delay (kept_of (access_of accessed address) (pick accessed (delay - since) 0) (min waits 32)) (transfers code) request
+    ≡ kept_of (access_of (is_access request || accessed) (pick (is_access request) (value request) address))
     (pick (is_access request || accessed) (delay - pick (is_access request) 0 (since + 1)) 0)
     (min (pick (eqb (kind request) 10 && is_transfer code) (waits + 1) 0) 32)
 keeps_on delay accessed address since waits code request byte =
@@ -65,11 +71,30 @@ over delay since = go (leb delay since) refl
     go true e = eq-eqb (delay - since) 0 (omega (arith, leb-true delay since e))
     go false e = ne_eqb (delay - since) 0 (λ z. omega (arith, z, leb-false delay since e))
 
-replies-by : (sync accessed inside : Bool) (delay since : ℕ)
-    → (sync && accessed && eqb (pick accessed (delay - since) 0) 0 && inside) ≡ (sync && accessed && leb delay since && inside)
-replies-by false accessed inside delay since = refl
-replies-by true false inside delay since = refl
-replies-by true true inside delay since = ap (λ (t : Bool). t && inside) (over delay since)
+replies-by : (sync accessed : Bool) (address size delay since : ℕ) → let access = access_of accessed address in
+    (sync && is_some access && eqb (pick accessed (delay - since) 0) 0 && ltb (unwrap_or access 0) size)
+    ≡ (sync && accessed && leb delay since && ltb address size)
+replies-by false false address size delay since = refl
+replies-by false true address size delay since = refl
+replies-by true false address size delay since = refl
+replies-by true true address size delay since = ap (λ (t : Bool). t && ltb address size) (over delay since)
+
+beyond-by : (late accessed : Bool) (address size : ℕ) → let access = access_of accessed address in
+    (late && is_some access && leb size (unwrap_or access 0)) ≡ (late && accessed && leb size address)
+beyond-by late true address size = refl
+beyond-by true false address size = refl
+beyond-by false false address size = refl
+
+-- before the first access the address is 0
+address-by : (t accessed : Bool) (a address : ℕ) → unwrap_or (access_of accessed address) 0 ≡ address
+    → unwrap_or (access_of (t || accessed) (pick t a address)) 0 ≡ pick t a address
+address-by true accessed a address same = refl
+address-by false accessed a address same = same
+
+pub address-is : (r : ℕ → ℕ) (i : ℕ) → unwrap_or (access_of (accessed_before r i) (address_before r i)) 0 ≡ address_before r i
+unfolding accessed_before address_before
+address-is r zero = refl
+address-is r (suc i) = address-by (is_access (r i)) (accessed_before r i) (value (r i)) (address_before r i) (address-is r i)
 
 -- counted up to 32
 up-to-32 : (n : ℕ) → leb 32 (min n 32) ≡ leb 32 n
@@ -113,7 +138,8 @@ module _ (ws : List ℕ) (rs : List Row) (delay : ℕ) (at : ℕ → Sample) (fi
   module _ (begins : first.kept ≡ nothing_kept) where
     -- the address of the last access, how much of its delay is left, and the waits in a row
     pub kept-is : (i : ℕ) → (after i).kept
-        ≡ kept_of (accessed_before r i) (address_before r i) (pick (accessed_before r i) (delay - since_access r i) 0) (min (waits_before c r i) 32)
+        ≡ kept_of (access_of (accessed_before r i) (address_before r i)) (pick (accessed_before r i) (delay - since_access r i) 0)
+        (min (waits_before c r i) 32)
     unfolding together_after taken_in accessed_before address_before since_access waits_before
     kept-is zero = begins
     kept-is (suc i) =
@@ -126,7 +152,7 @@ module _ (ws : List ℕ) (rs : List Row) (delay : ℕ) (at : ℕ → Sample) (fi
     bytes-are x inside zero = refl
     bytes-are x inside (suc i) =
         stored-byte (after i).bytes (after i).kept (r i) x (rw (size-stays i) inside)
-        ∙ rw (kept-is i, bytes-are x inside i)
+        ∙ rw (kept-is i, address-is r i, bytes-are x inside i)
 
     -- "REPLY falls when SYNC falls; it is low before the first access and beyond the memory", and for `delay` attempts after an access
     pub reply-is : (i : ℕ) → (seen_at ws rs delay at first i).reply
@@ -134,9 +160,11 @@ module _ (ws : List ℕ) (rs : List Row) (delay : ℕ) (at : ℕ → Sample) (fi
     unfolding seen_by seen_of reply_of
     reply-is i =
         rw (kept-is i, size-stays i)
-        (replies-by (after i).world.core.bus.sync (accessed_before r i) (ltb (address_before r i) (length first.bytes)) delay (since_access r i))
+        (replies-by (after i).world.core.bus.sync (accessed_before r i) (address_before r i) (length first.bytes) delay (since_access r i))
 
     -- the test for 17
     pub stuck-is : (i : ℕ) → stuck_of (length (after i).bytes) (after i).kept (transfers (c i)) (r i) ≡ stuck_at ws rs delay at first i
     unfolding stuck_of
-    stuck-is i = rw (kept-is i, size-stays i, transfer-waits-is (c i) (r i) (code_below ws (after i).world.core), up-to-32 (waits_before c r i))
+    stuck-is i =
+        rw (kept-is i, size-stays i, transfer-waits-is (c i) (r i) (code_below ws (after i).world.core), up-to-32 (waits_before c r i))
+        (beyond-by (eqb (kind (r i)) 10 && is_transfer (c i) && leb 32 (waits_before c r i)) (accessed_before r i) (address_before r i) (length first.bytes))

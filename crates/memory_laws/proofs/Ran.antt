@@ -9,7 +9,7 @@ use lib.ListN.{length}
 use borrow.Author.Tests.{eq-eqb, ne_eqb, eqb-true, eqb-false, ltb-true, ltb-false}
 use Rattle.choose.specs.Ranged.{pick}
 use Rattle.attempt.specs.Attempt.{attempt_of}
-use Rattle.attempt.specs.declared.Outcome.{Outcome}
+use Rattle.attempt.specs.Outcome.{Outcome}
 use Rattle.bus_memory.specs.Memory.{nothing_kept}
 use Rattle.engine.specs.Run.{World, stepped_of, stopped_of, run_from}
 use Rattle.engine.proofs.Runs.{run-cons as engine-cons}

@@ -8,7 +8,7 @@ use lib.Dec.{eqb}
 use lib.ListN.{length, set}
 use Rattle.choose.proofs.Choice.{pick_all}
 use Rattle.attempt_laws.proofs.Range.{attempt-in-range, attempt-request}
-use Rattle.bus_memory.specs.Memory.{kind_in, value_in, even_of, output_byte, takes_in, reply_of, data_of, seen_of, stored_in}
+use Rattle.bus_memory.specs.Memory.{kept_address, kind_in, value_in, even_of, output_byte, takes_in, reply_of, data_of, seen_of, stored_in}
 use Rattle.bus_memory.specs.declared.Kept.{Kept}
 use Rattle.engine.specs.Run.{stepped_of}
 use Rattle.memory.specs.Run.{Together, code_at, seen_by, taken_in}
@@ -26,17 +26,18 @@ stored_bytes bytes k request b =
     let low : value_in request % 0x100 < 256 = omega arith in
     let high : value_in request / 0x100 < 256 = omega arith in
     pick_all Bytes (eqb (kind_in request) 6) _ _
-    (set-bytes (set bytes (even_of k.address) (value_in request % 0x100)) (even_of k.address + 1) (value_in request / 0x100)
-    (set-bytes bytes (even_of k.address) (value_in request % 0x100) b low) high)
+    (set-bytes (set bytes (even_of (kept_address k)) (value_in request % 0x100)) (even_of (kept_address k) + 1) (value_in request / 0x100)
+    (set-bytes bytes (even_of (kept_address k)) (value_in request % 0x100) b low) high)
     (pick_all Bytes (eqb (kind_in request) 7) _ _
-    (set-bytes bytes k.address (output_byte k.address (value_in request)) b (pick_all (λ (n : ℕ). n < 256) (eqb (k.address % 2) 0) _ _ low high)) b)
+    (set-bytes bytes (kept_address k) (output_byte (kept_address k) (value_in request)) b
+    (pick_all (λ (n : ℕ). n < 256) (eqb (kept_address k % 2) 0) _ _ low high)) b)
 
 pub seen-range : (ws : List ℕ) (t : Together) (s : Sample) → Bytes t.bytes → SampleInRange s → SampleInRange (seen_by ws t s)
 unfolding seen_by seen_of data_of
 seen-range ws t s b d = record {
   dal =
       pick_all (λ (n : ℕ). n < 65536) (reply_of t.kept (length t.bytes) t.world.core.bus.sync && takes_in (code_at ws t.world.core)) _ _
-      (pair-below t.bytes b (even_of t.kept.address)) d.dal;
+      (pair-below t.bytes b (even_of (kept_address t.kept))) d.dal;
   interrupts = d.interrupts;
 }
 

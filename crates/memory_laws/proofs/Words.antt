@@ -9,11 +9,13 @@ use lib.ListN.{length, get_or, set, length-set}
 use lib.Seq.{get_or-set_same, get_or-set_other}
 use borrow.Author.Tests.{eq-eqb, ne_eqb, eqb-true, eqb-false, ltb-true, ltb-false, le-leb}
 use Rattle.choose.specs.Ranged.{pick, ranged}
+use Rattle.std.specs.Prelude.{Some}
 use Rattle.choose.proofs.Ranged.{in_rest}
 use Rattle.choose.proofs.Table.{below}
 use Rattle.choose.proofs.Tests.{equal-tests}
 use Rattle.attempt_laws.specs.Fate.{within, one_of}
-use Rattle.bus_memory.specs.Memory.{accesses, transfers, transfer_waits, output_byte, stored_in, takes_in, kept_of, even_of, word_in, memory_refusal_of}
+use Rattle.bus_memory.specs.Memory.{accesses, transfers, transfer_waits, output_byte, stored_in, takes_in}
+use Rattle.bus_memory.specs.Memory.{kept_of, kept_address, even_of, word_in, memory_refusal_of}
 use Rattle.bus_memory.specs.declared.Kept.{Kept}
 use Rattle.memory_laws.specs.History.{kind, value, is_access, is_transfer, lines_for}
 
@@ -93,17 +95,17 @@ module _ (bytes : List ℕ) (a v x : ℕ) (inside : x < length bytes) where
   byte_at false e = get_or-set_other bytes a x (output_byte a v) 0 (λ z. eqb-false a x e (omega (arith, z)))
 
 pub stored-byte : (bytes : List ℕ) (k : Kept) (request x : ℕ) → x < length bytes
-    → get_or (stored_in bytes k request) x 0 ≡ pick (stores_by k.address x request) (lines_for x (value request)) (get_or bytes x 0)
+    → get_or (stored_in bytes k request) x 0 ≡ pick (stores_by (kept_address k) x request) (lines_for x (value request)) (get_or bytes x 0)
 unfolding stored_in
 stored-byte bytes k request x inside = go (eqb (kind request) 6) (eqb (kind request) 7) refl refl
   where
     go : (a b : Bool) → eqb (kind request) 6 ≡ a → eqb (kind request) 7 ≡ b
-        → get_or (stored_in bytes k request) x 0 ≡ pick (stores_by k.address x request) (lines_for x (value request)) (get_or bytes x 0)
+        → get_or (stored_in bytes k request) x 0 ≡ pick (stores_by (kept_address k) x request) (lines_for x (value request)) (get_or bytes x 0)
     go true b e f =
         rw (e, other-kind (kind request) 6 7 e (λ z. omega (arith, z)))
-        (word_at bytes k.address (value request) x inside (eqb (k.address / 2) (x / 2)) (eqb (x % 2) 0) refl refl ∙ sym (or-none (eqb
-        (k.address / 2) (x / 2)) _ _))
-    go false true e f = rw (e, f) (byte_at bytes k.address (value request) x inside (eqb k.address x) refl)
+        (word_at bytes (kept_address k) (value request) x inside (eqb (kept_address k / 2) (x / 2)) (eqb (x % 2) 0) refl refl ∙ sym (or-none (eqb
+        (kept_address k / 2) (x / 2)) _ _))
+    go false true e f = rw (e, f) (byte_at bytes (kept_address k) (value request) x inside (eqb (kept_address k) x) refl)
     go false false e f = rw (e, f)
 
 -- "A word access ignores the lowest address bit": the word at an odd address is the one at the even address below it, taken and stored
@@ -112,27 +114,27 @@ word_even bytes address =
     let same : even_of (even_of address) ≡ even_of address = omega arith in
     rw same
 
-pub word-stored-even : (bytes : List ℕ) (accessed : Bool) (address low waits request : ℕ) → kind request ≡ 6
-    → stored_in bytes (kept_of accessed address low waits) request ≡ stored_in bytes (kept_of accessed (even_of address) low waits) request
+pub word-stored-even : (bytes : List ℕ) (address low waits request : ℕ) → kind request ≡ 6
+    → stored_in bytes (kept_of (Some address) low waits) request ≡ stored_in bytes (kept_of (Some (even_of address)) low waits) request
 unfolding stored_in
-word-stored-even bytes accessed address low waits request six =
+word-stored-even bytes address low waits request six =
     let same : even_of (even_of address) ≡ even_of address = omega arith in
     rw (eq-eqb (kind request) 6 six, same)
 
 -- "A byte output stores the lower lines at an even address and the upper at an odd one", at its own address, and leaves all others, its neighbour among them
 module _ (bytes : List ℕ) (k : Kept) (request : ℕ) (seven : kind request ≡ 7) where
-  pub byte-stored : k.address < length bytes → get_or (stored_in bytes k request) k.address 0 ≡ lines_for k.address (value request)
+  pub byte-stored : kept_address k < length bytes → get_or (stored_in bytes k request) (kept_address k) 0 ≡ lines_for (kept_address k) (value request)
   byte-stored inside =
-      stored-byte bytes k request k.address inside ∙ rw (
+      stored-byte bytes k request (kept_address k) inside ∙ rw (
         ne_eqb (kind request) 6 (λ z. omega (arith, seven, z)),
         eq-eqb _ 7 seven,
         eq-eqb
-            k.address k.address refl,
+            (kept_address k) (kept_address k) refl,
       )
 
-  pub neighbour-stays : (x : ℕ) → x < length bytes → (k.address ≡ x → ⊥) → get_or (stored_in bytes k request) x 0 ≡ get_or bytes x 0
+  pub neighbour-stays : (x : ℕ) → x < length bytes → (kept_address k ≡ x → ⊥) → get_or (stored_in bytes k request) x 0 ≡ get_or bytes x 0
   neighbour-stays x inside other =
-      stored-byte bytes k request x inside ∙ rw (ne_eqb (kind request) 6 (λ z. omega (arith, seven, z)), eq-eqb _ 7 seven, ne_eqb k.address x other)
+      stored-byte bytes k request x inside ∙ rw (ne_eqb (kind request) 6 (λ z. omega (arith, seven, z)), eq-eqb _ 7 seven, ne_eqb (kept_address k) x other)
 
 -- "16 memory length odd or over the limit, or delay over 15", exactly
 pub sixteen-else : (size delay : ℕ) → (memory_refusal_of size delay ≡ 0 → ⊥) → memory_refusal_of size delay ≡ 16

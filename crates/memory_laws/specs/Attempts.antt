@@ -2,7 +2,7 @@
 use Rattle.std.specs.Prelude.{ℕ, zero, suc, ◌<◌, ◌≡◌, Bool, ◌&&◌, List, [], ◌∷◌, ◌++◌, eqb, leb, length}
 use Rattle.choose.specs.Ranged.{pick}
 use Rattle.attempt.specs.Attempt.{attempt_of}
-use Rattle.attempt.specs.declared.Outcome.{Outcome}
+use Rattle.attempt.specs.Outcome.{Outcome}
 use Rattle.memory.specs.Run.{Together, code_at, seen_by, taken_in, stopped_at}
 use Rattle.rows.specs.declared.Row.{Row}
 use Rattle.state.specs.File.{Leaves}

@@ -7,25 +7,23 @@ ghost use Rattle.numbers.specs.Numbers.{byte_at, pair_of, quad_of, pair_at, quad
 pub fn byte_at(s: &[u8], a: usize) -> u8
     ensures { result ≡ byte_at s.now a }
 {
-    if a < s.len() {
-        return s[a];
-    }
-    0
+    s.get(a).copied().unwrap_or(0)
 }
 
 pub fn pair(low: u8, high: u8) -> u16
     ensures { result ≡ pair_of low high }
 {
-    low as u16 + 256 * (high as u16)
+    u16::from_le_bytes([low, high])
 }
 
-// One sum of four, which the compiler makes one load.
+// The compiler makes one load of it.
 pub fn quad(b0: u8, b1: u8, b2: u8, b3: u8) -> u32
     ensures { result ≡ quad_of b0 b1 b2 b3 }
 {
-    b0 as u32 + 256 * (b1 as u32) + 65536 * (b2 as u32) + 16777216 * (b3 as u32)
+    u32::from_le_bytes([b0, b1, b2, b3])
 }
 
+// The test, here and below, keeps `a + 1` in a usize; `get` of the first byte would be the same test.
 pub fn pair_at(s: &[u8], a: usize) -> u16
     ensures { result ≡ pair_at s.now a }
 {

@@ -7,6 +7,7 @@ use native.Mathlib.Omega.{arith}
 use lib.Dec.{T, eqb, ltb}
 use lib.ListN.{length}
 use borrow.Author.Tests.{ltb-true, ltb-false, lt-ltb, eqb-false}
+use Rattle.std.specs.Prelude.{Ok, Err}
 use Rattle.alu.specs.declared.Flags.{Flags}
 use Rattle.attempt.specs.Attempt.{executed_of, checked_of, taken_of, fetched_of, attempted_of, outputs_of, attempt_of}
 use Rattle.attempt.specs.Effect.{register_effect, effect_of}
@@ -19,8 +20,8 @@ use Rattle.choose.specs.Ranged.{pick, ranged}
 use Rattle.code.proofs.Shape.{same_class}
 use Rattle.code.proofs.Words.{is-apart}
 use Rattle.code.specs.CodeRows.{class_of, listed}
-use Rattle.code.specs.Word.{top_of, code_in, operands_in, fields_in, apart_of, same}
-use Rattle.code.specs.declared.Apart.{Apart}
+use Rattle.code.specs.Word.{Apart, top_of, code_in, operands_in, fields_in, apart_of, same}
+use Rattle.code.specs.declared.Unread.{Unread}
 use Rattle.code.specs.declared.Class.{Class}
 use Rattle.code.specs.declared.Operands.{Operands}
 use Rattle.execute.specs.Execute.{operation_of, conditioned_of, input_of, registers_of}
@@ -45,9 +46,9 @@ own-effect xs k code (Operands.Two b a) s = refl
 
 own-taken : (x : Apart) (o : Outputs) (xs : List ℕ) (k : Core) (s : Sample) → taken_by high_of word_refusal_of rmw_now x o xs k s ≡ taken_of x o xs k s
 unfolding checked_of executed_of
-own-taken (Apart.Word w) o xs k s = rw (own-effect xs k w.code w.operands s)
-own-taken Apart.OutOfRange o xs k s = refl
-own-taken Apart.Unlisted o xs k s = refl
+own-taken (Ok w) o xs k s = rw (own-effect xs k w.code w.operands s)
+own-taken (Err Unread.OutOfRange) o xs k s = refl
+own-taken (Err Unread.Unlisted) o xs k s = refl
 
 pub own-attempt : (ws : List ℕ) (rs : List Row) (xs : List ℕ) (k : Core) (s : Sample)
     → attempt_by high_of word_refusal_of rmw_now ws rs xs k s ≡ attempt_of ws rs xs k s
@@ -158,7 +159,7 @@ module _ (xs : List ℕ) (k : Core) (s : Sample) (o : Outputs) (word : ℕ) (eve
       rw (same-registers xs k s.dal (top_of word) (b_in word) (a_in word) (omega arith) (omega arith) (omega arith) q even)
 
   same_word : (c : Class) → class_of (top_of word) ≡ c
-      → taken_by next_of refusal_before rmw_now (Apart.Word (fields_in c word)) o xs k s ≡ taken_of (Apart.Word (fields_in c word)) o xs k s
+      → taken_by next_of refusal_before rmw_now (Ok (fields_in c word)) o xs k s ≡ taken_of (Ok (fields_in c word)) o xs k s
   unfolding fields_in checked_of executed_of
   same_word c q = rw (same-refusal (code c) (operands_in c word) (has-passed c), same_effect c q)
 

@@ -1,18 +1,18 @@
 -- The attempt with any lookup of a pair's high byte, any refusal of words and any rule of RMW, so that it can be had as it was before 02's L6 and before its
 -- L14. For two laws, those of even pairs and of the base's marking: the engine uses none of it.
-use Rattle.std.specs.Prelude.{ℕ, ◌+◌, ◌/◌, ◌%◌, ◌≡◌, Bool, false, true, ◌&&◌, ◌||◌, List, [], ◌∷◌, eqb, ltb, length}
+use Rattle.std.specs.Prelude.{ℕ, ◌+◌, ◌/◌, ◌%◌, ◌≡◌, Bool, false, true, ◌&&◌, ◌||◌, List, [], ◌∷◌, eqb, ltb, length, Ok, Err}
 use Rattle.alu.specs.declared.Flags.{Flags}
 use Rattle.alu.specs.declared.Kind.{Kind}
-use Rattle.attempt.specs.Attempt.{outcome_of, when_refused, when_idle, reset_of, modified_of, outputs_of}
+use Rattle.attempt.specs.Attempt.{when_refused, when_idle, reset_of, modified_of, outputs_of}
 use Rattle.attempt.specs.Effect.{jumped_of, literal_effect}
 use Rattle.attempt.specs.declared.Effect.{Effect}
-use Rattle.attempt.specs.declared.Outcome.{Outcome}
+use Rattle.attempt.specs.Outcome.{Outcome, outcome_of}
 use Rattle.attempt_laws.specs.Fate.{odd, two_cycle, input_word, top_in, b_in, a_in}
 use Rattle.checks.specs.Checks.{waiting_of}
 use Rattle.choose.specs.Ranged.{pick, ranged}
 use Rattle.code.specs.CodeRows.{cycles_of, options_of}
-use Rattle.code.specs.Word.{apart_of, number_of}
-use Rattle.code.specs.declared.Apart.{Apart}
+use Rattle.code.specs.Word.{Apart, apart_of, number_of}
+use Rattle.code.specs.declared.Unread.{Unread}
 use Rattle.code.specs.declared.Fields.{Fields}
 use Rattle.code.specs.declared.Operands.{Operands}
 use Rattle.control.specs.Bus.{rmw_of, bus_after, request_of}
@@ -95,12 +95,12 @@ module _ (high : ℕ → ℕ) (refusal : ℕ → Operands → ℕ) (rmw : Core �
       0)
 
   abbrev pub taken_by : Apart → Outputs → List ℕ → Core → Sample → Leaves Outcome
-  taken_by (Apart.Word w) o xs k sample =
+  taken_by (Ok w) o xs k sample =
       pick (eqb (refusal w.code w.operands) 0)
       (pick (waiting_of w.code sample) (when_idle xs k 10) (executed_by xs k w sample o))
       (when_refused xs k (refusal w.code w.operands))
-  taken_by Apart.OutOfRange o xs k sample = when_refused xs k (number_of Apart.OutOfRange)
-  taken_by Apart.Unlisted o xs k sample = when_refused xs k (number_of Apart.Unlisted)
+  taken_by (Err Unread.OutOfRange) o xs k sample = when_refused xs k (number_of (Err Unread.OutOfRange))
+  taken_by (Err Unread.Unlisted) o xs k sample = when_refused xs k (number_of (Err Unread.Unlisted))
 
   abbrev pub attempt_by : List ℕ → List Row → List ℕ → Core → Sample → Leaves Outcome
   attempt_by ws rs xs k sample =

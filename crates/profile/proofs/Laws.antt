@@ -1,7 +1,7 @@
 -- One word more of what the profile looks at, and when the lister gives no 2. Assumes nothing.
-use Prim.Native.Nat.{ℕ, suc, ◌+◌, ◌-◌, ◌%◌, ◌<◌, ◌≤◌}
-use mathlib.Core.Path.{◌≡◌, refl}
-use mathlib.Core.Bool.{Bool, true, false, and-eq-true_iff}
+use Prim.Native.Nat.{ℕ, suc, ◌+◌, ◌-◌, ◌/◌, ◌%◌, ◌<◌, ◌≤◌}
+use mathlib.Core.Path.{◌≡◌, refl, sym, ap, ◌∙◌}
+use mathlib.Core.Bool.{Bool, true, false, false≢true, and-eq-true_iff}
 use mathlib.Core.List.{List, ◌∷◌}
 use native.Mathlib.Numerals.{add-one}
 use native.Mathlib.Omega.{arith}
@@ -14,7 +14,11 @@ use Rattle.listing.specs.Assembled.{report_of as told}
 use Rattle.listing.specs.declared.Report.{Report}
 use Rattle.listing.specs.Listed.{word_count, words_in, first_with, is_whole, listed_of}
 use Rattle.numbers.specs.Numbers.{word_at}
-use Rattle.profile.specs.Profile.{report_of, rule_of, broken_from}
+use Rattle.profile.specs.Profile.{report_of, rule_of, broken_from, profile_of}
+use Rattle.profile.specs.Told.{rule_number, unfit_report}
+use Rattle.profile.specs.declared.Report as P
+use Rattle.profile.specs.declared.Rule.{Rule}
+use Rattle.profile.specs.declared.Unfit.{Unfit}
 
 module _ (s : List ℕ) (n i : ℕ) (h : i < n) where
   next_word : firsts (word_at s) i (n - i) ≡ word_at s i ∷ firsts (word_at s) (suc i) (n - (i + 1))
@@ -44,3 +48,41 @@ whole_words s room z =
     go true t at rest z = absurd (z refl)
     go false true at rest z = refl
     go false false at rest z = absurd (z refl)
+
+-- ---- what the lister's 2 comes to
+pub rule_not-0 : (rule : Rule) → rule_number rule ≡ 0 → ⊥
+rule_not-0 Rule.NoMi e = omega arith
+rule_not-0 Rule.RrByJumps e = omega arith
+rule_not-0 Rule.FirstWord e = omega arith
+rule_not-0 Rule.Runs e = omega arith
+
+unfit_not-0 : (u : Unfit) → (unfit_report u).answer ≡ 0 → ⊥
+unfit_not-0 (Unfit.Range refused) e = omega arith
+unfit_not-0 (Unfit.Broken address rule) e = omega arith
+
+module _ (s : List ℕ) where
+  abbrev pub Ranged : P.Report → Type 0
+  Ranged r = r ≡ pick (eqb (listed_of s 1).answer 2) (report_of 2 (listed_of s 1).at 0) (report_of 0 0 0)
+
+  pub refused : (u : Unfit) → Ranged (unfit_report u) → unfit_report u ≡ profile_of s
+  unfolding profile_of
+  refused u e = go (eqb (listed_of s 1).answer 2) e
+    where
+      go : (t : Bool) → unfit_report u ≡ pick t (report_of 2 (listed_of s 1).at 0) (report_of 0 0 0)
+          → unfit_report u ≡ pick t (report_of 2 (listed_of s 1).at 0) (broken_from 0 (firsts (word_at s) 0 (length s / 4)))
+      go true e = e
+      go false e = absurd (unfit_not-0 u (ap (λ (r : P.Report). r.answer) e))
+
+  pub fine : Ranged (report_of 0 0 0) → eqb (listed_of s 1).answer 2 ≡ false
+  fine e = go (eqb (listed_of s 1).answer 2) e
+    where
+      go : (t : Bool) → report_of 0 0 0 ≡ pick t (report_of 2 (listed_of s 1).at 0) (report_of 0 0 0) → t ≡ false
+      go true e = absurd (omega (arith, ap (λ (r : P.Report). r.answer) e))
+      go false e = refl
+
+  pub whole : Ranged (report_of 0 0 0) → (length s % 4 ≡ 0) × (length s ≤ 8192)
+  whole e = whole_words s 1 (λ z. let t : eqb (listed_of s 1).answer 2 ≡ true = eq-eqb _ _ z in false≢true (sym (fine e) ∙ t))
+
+  pub held : Ranged (report_of 0 0 0) → (r : P.Report) → r ≡ broken_from 0 (firsts (word_at s) 0 (length s / 4)) → r ≡ profile_of s
+  unfolding profile_of
+  held e r h = rw (fine e) h

@@ -2,7 +2,9 @@
 // the number of vectors of each top byte, 256 bytes.
 #![tactic(auto)]
 
-use code::{Apart, Class, CodeRow};
+use code::{Class, CodeRow, Stores, Unread, Waits};
+use names::{Codes, Mnemonic};
+use refusals::Refusal;
 use state::Bus;
 use std::io::{self, Read};
 
@@ -54,26 +56,6 @@ const UNLISTED: &str = "
 |---|---|---|---|
 ";
 
-// A name has no space between two letters.
-fn mnemonic(rt: &impl Print, top: u8) -> io::Result<()> {
-    for letter in names::mnemonic_of(top).to_be_bytes() {
-        if letter != b' ' {
-            rt.print(char::from(letter))?;
-        }
-    }
-    Ok(())
-}
-
-// JMP and RFS have 8 codes and each literal instruction 16, "when literals and jump addresses are not told apart".
-fn codes(rt: &impl Print, top: u8, class: Class) -> io::Result<()> {
-    let last = match class {
-        Class::Jump => top | 0x07,
-        Class::Literal => top | 0x0F,
-        _ => return print!(rt; "{top:02X}"),
-    };
-    print!(rt; "{top:02X}-{last:02X}")
-}
-
 fn format(class: Class) -> &'static str {
     match class {
         Class::Unlisted => "none",
@@ -103,20 +85,20 @@ fn flags(rt: &impl Print, set: u8, names: [(u8, &str); 4]) -> io::Result<()> {
     Ok(())
 }
 
-fn stores(registers: u8) -> &'static str {
-    match registers {
-        0 => "none",
-        1 => "Ra",
-        2 => "Ra's pair",
-        _ => "Ra and Rb",
+fn stores(stores: Stores) -> &'static str {
+    match stores {
+        Stores::Nothing => "none",
+        Stores::Ra => "Ra",
+        Stores::RaPair => "Ra's pair",
+        Stores::RaAndRb => "Ra and Rb",
     }
 }
 
-fn waits(kind: u8) -> &'static str {
-    match kind {
-        0 => "never",
-        1 => "REPLY or BUSY high",
-        _ => "REPLY low",
+fn waits(waits: Waits) -> &'static str {
+    match waits {
+        Waits::Never => "never",
+        Waits::ReplyOrBusyHigh => "REPLY or BUSY high",
+        Waits::ReplyLow => "REPLY low",
     }
 }
 
@@ -165,7 +147,7 @@ fn key(rt: &impl Print, top: u8) -> io::Result<()> {
     print!(rt; "{top:02X}-")?;
     match code::class_of(top) {
         Class::Unlisted => print!(rt; "unlisted"),
-        _ => mnemonic(rt, top),
+        _ => rt.print(Mnemonic(names::mnemonic_of(top))),
     }
 }
 
@@ -177,15 +159,20 @@ fn checked(rt: &impl Print, top: u8, vectors: u8) -> io::Result<()> {
 }
 
 // Designators 0 and the first option are refused by 6 only: that is CAD, which never completes.
-fn requirement(rt: &impl Print, top: u8, row: CodeRow, refusal: u8, vectors: u8) -> io::Result<()> {
+fn requirement(
+    rt: &impl Print,
+    top: u8,
+    row: CodeRow,
+    refusal: Option<Refusal>,
+    vectors: u8,
+) -> io::Result<()> {
     print!(rt; "| ")?;
     key(rt, top)?;
-    print!(rt; " | ")?;
-    codes(rt, top, row.class)?;
-    print!(rt; " | {} | ", format(row.class))?;
+    let class = row.class;
+    print!(rt; " | {} | {} | ", Codes { class, top }, format(class))?;
     match refusal {
-        0 => facts(rt, top, row)?,
-        _ => print!(rt; "| | | | | | 6: the engine always refuses it. ")?,
+        None => facts(rt, top, row)?,
+        Some(_) => print!(rt; "| | | | | | 6: the engine always refuses it. ")?,
     }
     checked(rt, top, vectors)
 }
@@ -200,11 +187,11 @@ fn unlisted(rt: &impl Print, top: u8, vectors: u8) -> io::Result<()> {
 // A line at an instruction's first top byte, or at an unlisted one, where it is of the table asked for.
 fn line(rt: &impl Print, top: u8, listed: bool, vectors: u8) -> io::Result<()> {
     match code::taken_apart(top as u32 * 0x100) {
-        Apart::Word(f) if listed && f.code == top => {
+        Ok(f) if listed && f.code == top => {
             let row = code::row_of(top);
             requirement(rt, top, row, checks::refusal(row, top, 0), vectors)
         }
-        Apart::Unlisted if !listed => unlisted(rt, top, vectors),
+        Err(Unread::Unlisted) if !listed => unlisted(rt, top, vectors),
         _ => Ok(()),
     }
 }

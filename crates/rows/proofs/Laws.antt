@@ -32,26 +32,26 @@ packed_none i = refl
 
 -- ---- rows in range
 -- a row in range puts out what is in range
-row-outputs : (r : Row) → row_in_range r ≡ true → (r.address ≤ 2047) × (r.lines ≤ 7) × (r.new_tsr ≤ 7)
+row-outputs : (r : Row) → row_in_range r ≡ true → (r.outputs.address ≤ 2047) × (r.outputs.lines ≤ 7) × (r.outputs.new_tsr ≤ 7)
 unfolding row_in_range outputs_fit
 row-outputs r h =
-    let fit = (three (masks_fit r) (outputs_fit r) (values_in_masks r) h).1 in
-    let p = three (leb r.address 2047) (leb r.lines 7) (leb r.new_tsr 7) fit in
+    let fit = (three (masks_fit r.mask) (outputs_fit r.outputs) (values_in_masks r) h).1 in
+    let p = three (leb r.outputs.address 2047) (leb r.outputs.lines 7) (leb r.outputs.new_tsr 7) fit in
     (leb-true _ _ p.0, leb-true _ _ p.1, leb-true _ _ p.2)
 
 -- OR sets no bit above those of its operands
-ored-in-range : (o : Outputs) (r : Row) → OutputsInRange o → row_in_range r ≡ true → OutputsInRange (ored o r)
+ored-in-range : (o : Outputs) (r : Row) → OutputsInRange o → row_in_range r ≡ true → OutputsInRange (ored o r.outputs)
 ored-in-range o r g h =
     let p = row-outputs r h in
     record {
-      address = omega (arith, or_lt 11 o.address r.address (omega arith) (omega arith));
-      lines = omega (arith, or_lt 3 o.lines r.lines (omega arith) (omega arith));
-      tsr = omega (arith, or_lt 3 o.new_tsr r.new_tsr (omega arith) (omega arith));
+      address = omega (arith, or_lt 11 o.address r.outputs.address (omega arith) (omega arith));
+      lines = omega (arith, or_lt 3 o.lines r.outputs.lines (omega arith) (omega arith));
+      tsr = omega (arith, or_lt 3 o.new_tsr r.outputs.new_tsr (omega arith) (omega arith));
     }
 
 pub merged-in-range : (o : Outputs) (r : Row) (i : Inputs) → OutputsInRange o → row_in_range r ≡ true → OutputsInRange (merged_of o r i)
 unfolding merged_of
-merged-in-range o r i g h = pick_all OutputsInRange (matched_of r i) (ored o r) o (ored-in-range o r g h) g
+merged-in-range o r i g h = pick_all OutputsInRange (matched_of r i) (ored o r.outputs) o (ored-in-range o r g h) g
 
 from-in-range : (o : Outputs) (rs : List Row) (i : Inputs) → OutputsInRange o → rows_in_range rs ≡ true → OutputsInRange (scan_from o rs i)
 unfolding scan_from rows_in_range
@@ -88,7 +88,3 @@ packed-length s n = rows-packed-length (rows_of s n) ∙ rows-length s n
 pub table-rows : (s : List ℕ) → take (whole_rows s) (table_of s) ≡ packed_rows (rows_of s (whole_rows s))
 unfolding filled_table
 table-rows s = take_at (packed_rows (rows_of s (whole_rows s))) _ (whole_rows s) (packed-length s (whole_rows s))
-
--- a section of n rows, at most 128, goes into its table whole
-pub whole-rows : (s : List ℕ) (n : ℕ) → n ≤ 128 → length s ≡ n * 16 → whole_rows s ≡ n
-whole-rows s n l e = omega arith

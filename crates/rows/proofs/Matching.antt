@@ -95,44 +95,44 @@ module _ (r : Row) where
     where
       to : row_in_range r ≡ true → RowInRange r
       to h =
-          let (masks, outputs, values) = three (masks_fit r) (outputs_fit r) (values_in_masks r) h in
-          let inputs = leb r.lc_mask 2047 && leb r.rni_mask 1 && leb r.tsr_mask 3 in
-          let (three-masks, interrupts) = both_true inputs (leb r.interrupt_mask 127) masks in
-          let (lc, rni, tsr) = three (leb r.lc_mask 2047) (leb r.rni_mask 1) (leb r.tsr_mask 3) three-masks in
-          let (address, lines, new) = three (leb r.address 2047) (leb r.lines 7) (leb r.new_tsr 7) outputs in
+          let (masks, outputs, values) = three (masks_fit r.mask) (outputs_fit r.outputs) (values_in_masks r) h in
+          let inputs = leb r.mask.lc 2047 && leb r.mask.rni 1 && leb r.mask.tsr 3 in
+          let (three-masks, interrupts) = both_true inputs (leb r.mask.interrupts 127) masks in
+          let (lc, rni, tsr) = three (leb r.mask.lc 2047) (leb r.mask.rni 1) (leb r.mask.tsr 3) three-masks in
+          let (address, lines, new) = three (leb r.outputs.address 2047) (leb r.outputs.lines 7) (leb r.outputs.new_tsr 7) outputs in
           let (a, b, c, d, e) =
-          five (in_mask r.lc_value r.lc_mask) (in_mask r.rni_value r.rni_mask) (in_mask r.tr_value r.tr_mask)
-          (in_mask r.tsr_value r.tsr_mask) (in_mask r.interrupt_value r.interrupt_mask) values in
+          five (in_mask r.value.lc r.mask.lc) (in_mask r.value.rni r.mask.rni) (in_mask r.value.tr r.mask.tr)
+          (in_mask r.value.tsr r.mask.tsr) (in_mask r.value.interrupts r.mask.interrupts) values in
           record {
-            lc-mask = omega (arith, leb-true r.lc_mask 2047 lc);
-            rni-mask = omega (arith, leb-true r.rni_mask 1 rni);
-            tsr-mask = omega (arith, leb-true r.tsr_mask 3 tsr);
-            interrupt-mask = omega (arith, leb-true r.interrupt_mask 127 interrupts);
-            lc-value = (in-mask-bits r.lc_mask r.lc_value).0 a;
-            rni-value = (in-mask-bits r.rni_mask r.rni_value).0 b;
-            tr-value = (in-mask-bits r.tr_mask r.tr_value).0 c;
-            tsr-value = (in-mask-bits r.tsr_mask r.tsr_value).0 d;
-            interrupt-value = (in-mask-bits r.interrupt_mask r.interrupt_value).0 e;
-            address = omega (arith, leb-true r.address 2047 address);
-            lines = omega (arith, leb-true r.lines 7 lines);
-            new-tsr = omega (arith, leb-true r.new_tsr 7 new);
+            lc-mask = omega (arith, leb-true r.mask.lc 2047 lc);
+            rni-mask = omega (arith, leb-true r.mask.rni 1 rni);
+            tsr-mask = omega (arith, leb-true r.mask.tsr 3 tsr);
+            interrupt-mask = omega (arith, leb-true r.mask.interrupts 127 interrupts);
+            lc-value = (in-mask-bits r.mask.lc r.value.lc).0 a;
+            rni-value = (in-mask-bits r.mask.rni r.value.rni).0 b;
+            tr-value = (in-mask-bits r.mask.tr r.value.tr).0 c;
+            tsr-value = (in-mask-bits r.mask.tsr r.value.tsr).0 d;
+            interrupt-value = (in-mask-bits r.mask.interrupts r.value.interrupts).0 e;
+            address = omega (arith, leb-true r.outputs.address 2047 address);
+            lines = omega (arith, leb-true r.outputs.lines 7 lines);
+            new-tsr = omega (arith, leb-true r.outputs.new_tsr 7 new);
           }
 
       from : RowInRange r → row_in_range r ≡ true
       from h =
           rw (
-            le-leb r.lc_mask 2047 (omega arith),
-            le-leb r.rni_mask 1 (omega arith),
-            le-leb r.tsr_mask 3 (omega arith),
-            le-leb r.interrupt_mask 127 (omega arith),
-            le-leb r.address 2047 (omega arith),
-            le-leb r.lines 7 (omega arith),
-            le-leb r.new_tsr 7 (omega arith),
-            (in-mask-bits r.lc_mask r.lc_value).1 h.lc-value,
-            (in-mask-bits r.rni_mask r.rni_value).1 h.rni-value,
-            (in-mask-bits r.tr_mask r.tr_value).1 h.tr-value,
-            (in-mask-bits r.tsr_mask r.tsr_value).1 h.tsr-value,
-            (in-mask-bits r.interrupt_mask r.interrupt_value).1 h.interrupt-value,
+            le-leb r.mask.lc 2047 (omega arith),
+            le-leb r.mask.rni 1 (omega arith),
+            le-leb r.mask.tsr 3 (omega arith),
+            le-leb r.mask.interrupts 127 (omega arith),
+            le-leb r.outputs.address 2047 (omega arith),
+            le-leb r.outputs.lines 7 (omega arith),
+            le-leb r.outputs.new_tsr 7 (omega arith),
+            (in-mask-bits r.mask.lc r.value.lc).1 h.lc-value,
+            (in-mask-bits r.mask.rni r.value.rni).1 h.rni-value,
+            (in-mask-bits r.mask.tr r.value.tr).1 h.tr-value,
+            (in-mask-bits r.mask.tsr r.value.tsr).1 h.tsr-value,
+            (in-mask-bits r.mask.interrupts r.value.interrupts).1 h.interrupt-value,
           )
 
   -- "A row matches when, under its masks, .. equal its values"
@@ -145,53 +145,53 @@ module _ (r : Row) where
     (λ m. rw (lc.1 m.lc, rni.1 m.rni, tr.1 m.tr, tsr.1 m.tsr, interrupts.1 m.interrupts)),
   )
     where
-      lc : (agrees i.lc r.lc_mask r.lc_value ≡ true) ↔ EqualUnder i.lc r.lc_mask r.lc_value
-      lc = agrees-bits r.lc_mask r.lc_value (row-in-range.0 h).lc-value i.lc
+      lc : (agrees i.lc r.mask.lc r.value.lc ≡ true) ↔ EqualUnder i.lc r.mask.lc r.value.lc
+      lc = agrees-bits r.mask.lc r.value.lc (row-in-range.0 h).lc-value i.lc
 
-      rni : (agrees i.rni r.rni_mask r.rni_value ≡ true) ↔ EqualUnder i.rni r.rni_mask r.rni_value
-      rni = agrees-bits r.rni_mask r.rni_value (row-in-range.0 h).rni-value i.rni
+      rni : (agrees i.rni r.mask.rni r.value.rni ≡ true) ↔ EqualUnder i.rni r.mask.rni r.value.rni
+      rni = agrees-bits r.mask.rni r.value.rni (row-in-range.0 h).rni-value i.rni
 
-      tr : (agrees i.tr r.tr_mask r.tr_value ≡ true) ↔ EqualUnder i.tr r.tr_mask r.tr_value
-      tr = agrees-bits r.tr_mask r.tr_value (row-in-range.0 h).tr-value i.tr
+      tr : (agrees i.tr r.mask.tr r.value.tr ≡ true) ↔ EqualUnder i.tr r.mask.tr r.value.tr
+      tr = agrees-bits r.mask.tr r.value.tr (row-in-range.0 h).tr-value i.tr
 
-      tsr : (agrees i.tsr r.tsr_mask r.tsr_value ≡ true) ↔ EqualUnder i.tsr r.tsr_mask r.tsr_value
-      tsr = agrees-bits r.tsr_mask r.tsr_value (row-in-range.0 h).tsr-value i.tsr
+      tsr : (agrees i.tsr r.mask.tsr r.value.tsr ≡ true) ↔ EqualUnder i.tsr r.mask.tsr r.value.tsr
+      tsr = agrees-bits r.mask.tsr r.value.tsr (row-in-range.0 h).tsr-value i.tsr
 
-      interrupts : (agrees i.interrupts r.interrupt_mask r.interrupt_value ≡ true)
-          ↔ EqualUnder i.interrupts r.interrupt_mask r.interrupt_value
-      interrupts = agrees-bits r.interrupt_mask r.interrupt_value (row-in-range.0 h).interrupt-value i.interrupts
+      interrupts : (agrees i.interrupts r.mask.interrupts r.value.interrupts ≡ true)
+          ↔ EqualUnder i.interrupts r.mask.interrupts r.value.interrupts
+      interrupts = agrees-bits r.mask.interrupts r.value.interrupts (row-in-range.0 h).interrupt-value i.interrupts
 
 -- ---- the outputs of all rows
-module _ (out : Outputs → ℕ) (output : Row → ℕ) (joins : (o : Outputs) (r : Row) → out (ored o r) ≡ bit_or (out o) (output r)) (i : Inputs) (j : ℕ) where
+module _ (out : Outputs → ℕ) (joins : (o p : Outputs) → out (ored o p) ≡ bit_or (out o) (out p)) (i : Inputs) (j : ℕ) where
   -- bit j is 1 already, or becomes so by a row that matches
   abbrev Set : Outputs → List Row → Type 0
-  Set o rs = (bit_at (out o) j ≡ 1) ⊎ SomeRow output j i rs
+  Set o rs = (bit_at (out o) j ≡ 1) ⊎ SomeRow out j i rs
 
   -- one more row that matches
-  joined : (o : Outputs) (r : Row) → (bit_at (out (ored o r)) j ≡ 1) ↔ ((bit_at (out o) j ≡ 1) ⊎ (bit_at (output r) j ≡ 1))
-  joined o r = (
+  joined : (o p : Outputs) → (bit_at (out (ored o p)) j ≡ 1) ↔ ((bit_at (out o) j ≡ 1) ⊎ (bit_at (out p) j ≡ 1))
+  joined o p = (
     (λ h. go h (eqb (bit_at (out o) j) 1) refl),
-    (λ h. ⊎_elim (λ a. omega (arith, both, bit_below (output r) j)) (λ a. omega (arith, both, bit_below (out o) j)) h),
+    (λ h. ⊎_elim (λ a. omega (arith, both, bit_below (out p) j)) (λ a. omega (arith, both, bit_below (out o) j)) h),
   )
     where
-      both : bit_at (out (ored o r)) j ≡ max (bit_at (out o) j) (bit_at (output r) j)
-      both = ap (λ (n : ℕ). bit_at n j) (joins o r) ∙ or-bit j (out o) (output r)
+      both : bit_at (out (ored o p)) j ≡ max (bit_at (out o) j) (bit_at (out p) j)
+      both = ap (λ (n : ℕ). bit_at n j) (joins o p) ∙ or-bit j (out o) (out p)
 
-      go : bit_at (out (ored o r)) j ≡ 1 → (t : Bool) → eqb (bit_at (out o) j) 1 ≡ t → (bit_at (out o) j ≡ 1) ⊎ (bit_at (output r) j ≡ 1)
+      go : bit_at (out (ored o p)) j ≡ 1 → (t : Bool) → eqb (bit_at (out o) j) 1 ≡ t → (bit_at (out o) j ≡ 1) ⊎ (bit_at (out p) j ≡ 1)
       go h true q = inl (eqb-true _ _ q)
       go h false q = inr (omega (arith, both, eqb-false (bit_at (out o) j) 1 q, bit_below (out o) j))
 
   scan-set : (rs : List Row) (o : Outputs) → (bit_at (out (scan_from o rs i)) j ≡ 1) ↔ Set o rs
   unfolding scan_from merged_of
   scan-set [] o = (inl, λ h. ⊎_elim (λ a. a) (λ a. absurd a) h)
-  scan-set (r ∷ rs) o = step (matched_of r i) refl (scan-set rs (ored o r)) (scan-set rs o)
+  scan-set (r ∷ rs) o = step (matched_of r i) refl (scan-set rs (ored o r.outputs)) (scan-set rs o)
     where
       step : (t : Bool) → matched_of r i ≡ t
-          → (bit_at (out (scan_from (ored o r) rs i)) j ≡ 1) ↔ Set (ored o r) rs → (bit_at (out (scan_from o rs i)) j ≡ 1) ↔ Set o rs
-          → (bit_at (out (scan_from (pick t (ored o r) o) rs i)) j ≡ 1) ↔ Set o (r ∷ rs)
+          → (bit_at (out (scan_from (ored o r.outputs) rs i)) j ≡ 1) ↔ Set (ored o r.outputs) rs → (bit_at (out (scan_from o rs i)) j ≡ 1) ↔ Set o rs
+          → (bit_at (out (scan_from (pick t (ored o r.outputs) o) rs i)) j ≡ 1) ↔ Set o (r ∷ rs)
       step true q f g = (
-        (λ h. ⊎_elim (λ a. ⊎_elim inl (λ b. inr (inl (q, b))) ((joined o r).0 a)) (λ a. inr (inr a)) (f.0 h)),
-        (λ h. f.1 (⊎_elim (λ a. inl ((joined o r).1 (inl a))) (λ a. ⊎_elim (λ b. inl ((joined o r).1 (inr b.1))) inr a) h)),
+        (λ h. ⊎_elim (λ a. ⊎_elim inl (λ b. inr (inl (q, b))) ((joined o r.outputs).0 a)) (λ a. inr (inr a)) (f.0 h)),
+        (λ h. f.1 (⊎_elim (λ a. inl ((joined o r.outputs).1 (inl a))) (λ a. ⊎_elim (λ b. inl ((joined o r.outputs).1 (inr b.1))) inr a) h)),
       )
       step false q f g = (
         (λ h. ⊎_elim inl (λ a. inr (inr a)) (g.0 h)),
@@ -199,7 +199,7 @@ module _ (out : Outputs → ℕ) (output : Row → ℕ) (joins : (o : Outputs) (
       )
 
   -- nothing is put out before the first row
-  from-none : out none ≡ 0 → (rs : List Row) → (bit_at (out (scan_of rs i)) j ≡ 1) ↔ SomeRow output j i rs
+  from-none : out none ≡ 0 → (rs : List Row) → (bit_at (out (scan_of rs i)) j ≡ 1) ↔ SomeRow out j i rs
   from-none z rs = (
     (λ h. ⊎_elim (λ a. absurd (omega (arith, ap (λ (n : ℕ). bit_at n j) z, zero_bit j))) (λ a. a) ((scan-set rs none).0 h)),
     (λ h. (scan-set rs none).1 (inr h)),
@@ -207,11 +207,11 @@ module _ (out : Outputs → ℕ) (output : Row → ℕ) (joins : (o : Outputs) (
 
 -- "Outputs of all matching rows are ORed": a bit of an output is 1 exactly if it is 1 in some row that matches
 module _ (rs : List Row) (i : Inputs) (j : ℕ) where
-  pub address-ored : (bit_at (scan_of rs i).address j ≡ 1) ↔ SomeRow (λ r. r.address) j i rs
-  address-ored = from-none (λ o. o.address) (λ r. r.address) (λ o r. refl) i j refl rs
+  pub address-ored : (bit_at (scan_of rs i).address j ≡ 1) ↔ SomeRow (λ o. o.address) j i rs
+  address-ored = from-none (λ o. o.address) (λ o p. refl) i j refl rs
 
-  pub lines-ored : (bit_at (scan_of rs i).lines j ≡ 1) ↔ SomeRow (λ r. r.lines) j i rs
-  lines-ored = from-none (λ o. o.lines) (λ r. r.lines) (λ o r. refl) i j refl rs
+  pub lines-ored : (bit_at (scan_of rs i).lines j ≡ 1) ↔ SomeRow (λ o. o.lines) j i rs
+  lines-ored = from-none (λ o. o.lines) (λ o p. refl) i j refl rs
 
-  pub new-tsr-ored : (bit_at (scan_of rs i).new_tsr j ≡ 1) ↔ SomeRow (λ r. r.new_tsr) j i rs
-  new-tsr-ored = from-none (λ o. o.new_tsr) (λ r. r.new_tsr) (λ o r. refl) i j refl rs
+  pub new-tsr-ored : (bit_at (scan_of rs i).new_tsr j ≡ 1) ↔ SomeRow (λ o. o.new_tsr) j i rs
+  new-tsr-ored = from-none (λ o. o.new_tsr) (λ o p. refl) i j refl rs

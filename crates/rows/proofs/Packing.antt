@@ -52,10 +52,10 @@ module _ (k : ℕ) where
       under = lt_of_le_of_lt (and_le_r x mask) lm
 
 -- ---- a row
-side-fields : (lc rni tr tsr interrupts : ℕ)
-    → side_by_side lc rni tr tsr interrupts ≡ (((tr * 2 ^ 7 + interrupts % 2 ^ 7) * 2 ^ 2 + tsr % 2 ^ 2) * 2 ^ 1 + rni % 2 ^ 1) * 2 ^ 11 + lc % 2 ^ 11
+side-fields : (i : Inputs)
+    → side_by_side i ≡ (((i.tr * 2 ^ 7 + i.interrupts % 2 ^ 7) * 2 ^ 2 + i.tsr % 2 ^ 2) * 2 ^ 1 + i.rni % 2 ^ 1) * 2 ^ 11 + i.lc % 2 ^ 11
 unfolding side_by_side
-side-fields lc rni tr tsr interrupts = omega arith
+side-fields i = omega arith
 
 -- a value that has no bit outside its mask is below what its mask is below
 below : (n value mask : ℕ) → InMask value mask → mask < n → value < n
@@ -76,15 +76,15 @@ matched-packed : (r : Row) (i : Inputs) → row_in_range r ≡ true → matched_
 unfolding matched_in packed_of matched_of
 matched-packed r i h =
     let g = (row-in-range r).0 h in
-    let lc = agrees i.lc r.lc_mask r.lc_value in
-    let rni = agrees i.rni r.rni_mask r.rni_value in
-    let tr = agrees i.tr r.tr_mask r.tr_value in
-    let tsr = agrees i.tsr r.tsr_mask r.tsr_value in
-    let interrupts = agrees i.interrupts r.interrupt_mask r.interrupt_value in
+    let lc = agrees i.lc r.mask.lc r.value.lc in
+    let rni = agrees i.rni r.mask.rni r.value.rni in
+    let tr = agrees i.tr r.mask.tr r.value.tr in
+    let tsr = agrees i.tsr r.mask.tsr r.value.tsr in
+    let interrupts = agrees i.interrupts r.mask.interrupts r.value.interrupts in
     rw (
-      side-fields i.lc i.rni i.tr i.tsr i.interrupts,
-      side-fields r.lc_mask r.rni_mask r.tr_mask r.tsr_mask r.interrupt_mask,
-      side-fields r.lc_value r.rni_value r.tr_value r.tsr_value r.interrupt_value,
+      side-fields i,
+      side-fields r.mask,
+      side-fields r.value,
       agrees-below 11 _ _ _ _ _ _ g.lc-mask (below _ _ _ g.lc-value g.lc-mask),
       agrees-below 1 _ _ _ _ _ _ g.rni-mask (below _ _ _ g.rni-value g.rni-mask),
       agrees-below 2 _ _ _ _ _ _ g.tsr-mask (below _ _ _ g.tsr-value g.tsr-mask),
@@ -99,15 +99,15 @@ packed_out o = o.address + 0x1_0000 * o.lines + 0x100_0000 * o.new_tsr
 out-fields : (address lines tsr : ℕ) → address + 0x1_0000 * lines + 0x100_0000 * tsr ≡ (tsr * 2 ^ 8 + lines) * 2 ^ 16 + address
 out-fields address lines tsr = omega arith
 
-ored-packed : (o : Outputs) (r : Row) → OutputsInRange o → row_in_range r ≡ true → bit_or (packed_out o) (packed_of r).outputs ≡ packed_out (ored o r)
+ored-packed : (o : Outputs) (r : Row) → OutputsInRange o → row_in_range r ≡ true → bit_or (packed_out o) (packed_of r).outputs ≡ packed_out (ored o r.outputs)
 unfolding packed_of
 ored-packed o r g h =
     let w = (row-in-range r).0 h in
     rw (
       out-fields o.address o.lines o.new_tsr,
-      out-fields r.address r.lines r.new_tsr,
-      or_block 16 _ _ o.address r.address (omega arith) (omega arith),
-      or_block 8 _ _ o.lines r.lines (omega arith) (omega arith),
+      out-fields r.outputs.address r.outputs.lines r.outputs.new_tsr,
+      or_block 16 _ _ o.address r.outputs.address (omega arith) (omega arith),
+      or_block 8 _ _ o.lines r.outputs.lines (omega arith) (omega arith),
     )
     (sym (out-fields _ _ _))
 
@@ -116,7 +116,7 @@ merged-packed : (o : Outputs) (r : Row) (i : Inputs) → OutputsInRange o → ro
 unfolding merged_in merged_of
 merged-packed o r i g h = rw (matched-packed r i h, ored-packed o r g h) (go (matched_of r i))
   where
-    go : (t : Bool) → pick t (packed_out (ored o r)) (packed_out o) ≡ packed_out (pick t (ored o r) o)
+    go : (t : Bool) → pick t (packed_out (ored o r.outputs)) (packed_out o) ≡ packed_out (pick t (ored o r.outputs) o)
     go true = refl
     go false = refl
 

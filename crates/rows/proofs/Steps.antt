@@ -1,11 +1,14 @@
 -- The steps of the loops of `scan` and `load`, one row more and none left, and a row past the end, by the laws of lists. Assumes nothing.
-use mathlib.Core.Path.{◌≡◌, refl, sym, ◌∙◌}
+use mathlib.Core.Path.{◌≡◌, refl, sym, ap, ◌∙◌}
+use mathlib.Core.Bool.{Bool, true, false}
 use mathlib.Core.List.{List, [], ◌∷◌, ◌++◌, append_assoc}
-use Prim.Native.Nat.{ℕ, suc, ◌+◌, ◌-◌, ◌*◌, ◌<◌, ◌≤◌}
+use Prim.Native.Nat.{ℕ, suc, ◌+◌, ◌-◌, ◌*◌, ◌<◌, ◌≤◌, min}
 use native.Mathlib.Numerals.{add-one}
 use native.Mathlib.Omega.{arith}
+use borrow.Author.Tests.{leb-true, leb-false}
+use lib.Dec.{leb}
 use lib.Seq.{drop-cons, set_at}
-use lib.ListN.{length, get_or, set, replicate, drop, length-append, length-replicate, drop_of_length-le, get_or-eq_default}
+use lib.ListN.{length, get_or, set, replicate, drop, drop_of_length-le, get_or-eq_default}
 use Rattle.rows.specs.declared.Row.{Row}
 use Rattle.rows.specs.declared.Packed.{Packed}
 use Rattle.rows.specs.Packing.{packed_of, packed_rows, merged_in, scanned_in}
@@ -54,8 +57,13 @@ nothing-past s a l =
     none : (b : ℕ) → length s ≤ b → get_or s b 0 ≡ 0
     none b h = get_or-eq_default s 0 h
 
-pub row-past : (s : List ℕ) (a : ℕ) → length s ≤ a → row_from s (length s) ≡ row_from s a
-row-past s a l = nothing-past s (length s) (omega arith) ∙ sym (nothing-past s a l)
+-- a place past the end gives what the end gives
+pub row_past : (s : List ℕ) (a n : ℕ) → n ≡ min a (length s) → row_from s n ≡ row_from s a
+row_past s a n e = go (leb a (length s)) refl
+  where
+    go : (t : Bool) → leb a (length s) ≡ t → row_from s n ≡ row_from s a
+    go true q = ap (row_from s) (omega (arith, e, leb-true a (length s) q))
+    go false q = nothing-past s n (omega (arith, e, leb-false a (length s) q)) ∙ sym (nothing-past s a (omega (arith, leb-false a (length s) q)))
 
 -- the start of `load`: an empty table
 pub filled_none : (s : List ℕ) → replicate 128 empty_row ≡ filled_table s 0
@@ -82,8 +90,3 @@ filled_more s k p l e =
       append_assoc,
       e,
     )
-
--- a table has 128 rows, however many of them are filled
-pub filled-length : (s : List ℕ) (k : ℕ) → k ≤ 128 → length (filled_table s k) ≡ 128
-unfolding filled_table
-filled-length s k l = simp (length-append, length-replicate, packed-length) (omega arith)

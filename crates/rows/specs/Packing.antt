@@ -9,16 +9,15 @@ use Rattle.rows.specs.declared.Inputs.{Inputs}
 use Rattle.rows.specs.declared.Outputs.{Outputs}
 
 -- LC in bits 0-10, RNI in 11, TSR bits 1-0 in 12-13, I0-I6 in 14-20, the TR byte above them
-unfoldable pub side_by_side : ℕ → ℕ → ℕ → ℕ → ℕ → ℕ
-side_by_side lc rni tr tsr interrupts =
-    lc % 0x800 + 0x800 * (rni % 2) + 0x1000 * (tsr % 4) + 0x4000 * (interrupts % 128) + 0x20_0000 * tr
+unfoldable pub side_by_side : Inputs → ℕ
+side_by_side i = i.lc % 0x800 + 0x800 * (i.rni % 2) + 0x1000 * (i.tsr % 4) + 0x4000 * (i.interrupts % 128) + 0x20_0000 * i.tr
 
 unfoldable pub packed_of : Row → Packed
 packed_of r =
     record {
-      mask = side_by_side r.lc_mask r.rni_mask r.tr_mask r.tsr_mask r.interrupt_mask;
-      value = side_by_side r.lc_value r.rni_value r.tr_value r.tsr_value r.interrupt_value;
-      outputs = r.address + 0x1_0000 * r.lines + 0x100_0000 * r.new_tsr;
+      mask = side_by_side r.mask;
+      value = side_by_side r.value;
+      outputs = r.outputs.address + 0x1_0000 * r.outputs.lines + 0x100_0000 * r.outputs.new_tsr;
     }
 
 unfoldable pub packed_rows : List Row → List Packed
@@ -26,7 +25,7 @@ packed_rows [] = []
 packed_rows (r ∷ rs) = packed_of r ∷ packed_rows rs
 
 abbrev pub key_of : Inputs → ℕ
-key_of i = side_by_side i.lc i.rni i.tr i.tsr i.interrupts
+key_of i = side_by_side i
 
 unfoldable pub matched_in : Packed → ℕ → Bool
 matched_in p key = eqb (bit_and key p.mask) p.value

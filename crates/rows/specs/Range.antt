@@ -2,15 +2,16 @@
 use Rattle.std.specs.Prelude.{Bool, true, ◌&&◌, List, [], ◌∷◌, ℕ, ◌≤◌, eqb, leb}
 use Rattle.std.specs.Int.Bits.{bit_and}
 use Rattle.rows.specs.declared.Row.{Row}
+use Rattle.rows.specs.declared.Inputs.{Inputs}
 use Rattle.rows.specs.declared.Outputs.{Outputs}
 
 -- "any unused bit set", in a mask: LC has 11 bits, RNI 1, TSR bits 1-0 2 and I0-I6 7; the TR byte uses all 8
-unfoldable pub masks_fit : Row → Bool
-masks_fit r = leb r.lc_mask 2047 && leb r.rni_mask 1 && leb r.tsr_mask 3 && leb r.interrupt_mask 127
+unfoldable pub masks_fit : Inputs → Bool
+masks_fit m = leb m.lc 2047 && leb m.rni 1 && leb m.tsr 3 && leb m.interrupts 127
 
 -- the same, in an output: the address has 11 bits, the lines 3 and the new TSR 3
-unfoldable pub outputs_fit : Row → Bool
-outputs_fit r = leb r.address 2047 && leb r.lines 7 && leb r.new_tsr 7
+unfoldable pub outputs_fit : Outputs → Bool
+outputs_fit o = leb o.address 2047 && leb o.lines 7 && leb o.new_tsr 7
 
 -- "a row value with a bit outside its mask" is one that its mask changes
 abbrev pub in_mask : ℕ → ℕ → Bool
@@ -19,15 +20,15 @@ in_mask value mask = eqb (bit_and value mask) value
 -- none of the five values has a bit outside its mask
 unfoldable pub values_in_masks : Row → Bool
 values_in_masks r =
-    in_mask r.lc_value r.lc_mask
-    && in_mask r.rni_value r.rni_mask
-    && in_mask r.tr_value r.tr_mask
-    && in_mask r.tsr_value r.tsr_mask
-    && in_mask r.interrupt_value r.interrupt_mask
+    in_mask r.value.lc r.mask.lc
+    && in_mask r.value.rni r.mask.rni
+    && in_mask r.value.tr r.mask.tr
+    && in_mask r.value.tsr r.mask.tsr
+    && in_mask r.value.interrupts r.mask.interrupts
 
 -- "a row out of range" is one that is not this
 unfoldable pub row_in_range : Row → Bool
-row_in_range r = masks_fit r && outputs_fit r && values_in_masks r
+row_in_range r = masks_fit r.mask && outputs_fit r.outputs && values_in_masks r
 
 -- no row of a list is out of range
 unfoldable pub rows_in_range : List Row → Bool

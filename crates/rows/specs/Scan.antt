@@ -14,19 +14,19 @@ agrees x mask value = eqb (bit_and x mask) value
 -- and I0-I6 equal its values, all as before the attempt"
 unfoldable pub matched_of : Row → Inputs → Bool
 matched_of r i =
-    agrees i.lc r.lc_mask r.lc_value
-    && agrees i.rni r.rni_mask r.rni_value
-    && agrees i.tr r.tr_mask r.tr_value
-    && agrees i.tsr r.tsr_mask r.tsr_value
-    && agrees i.interrupts r.interrupt_mask r.interrupt_value
+    agrees i.lc r.mask.lc r.value.lc
+    && agrees i.rni r.mask.rni r.value.rni
+    && agrees i.tr r.mask.tr r.value.tr
+    && agrees i.tsr r.mask.tsr r.value.tsr
+    && agrees i.interrupts r.mask.interrupts r.value.interrupts
 
 -- "ORed", output by output: a row without LTA still gives its address bits, one without LTSR its new TSR bits
-abbrev pub ored : Outputs → Row → Outputs
-ored o r = record { address = bit_or o.address r.address; lines = bit_or o.lines r.lines; new_tsr = bit_or o.new_tsr r.new_tsr }
+abbrev pub ored : Outputs → Outputs → Outputs
+ored o p = record { address = bit_or o.address p.address; lines = bit_or o.lines p.lines; new_tsr = bit_or o.new_tsr p.new_tsr }
 
 -- what one more row makes of the outputs: they change only where it matches
 unfoldable pub merged_of : Outputs → Row → Inputs → Outputs
-merged_of o r i = pick (matched_of r i) (ored o r) o
+merged_of o r i = pick (matched_of r i) (ored o r.outputs) o
 
 -- no outputs
 abbrev pub none : Outputs

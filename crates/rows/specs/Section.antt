@@ -7,19 +7,21 @@ use Rattle.rows.specs.declared.Row.{Row}
 -- (1 each), address (2), lines (bit 0 LTA, 1 LRA, 2 LTSR), new TSR": the row that begins at byte a
 unfoldable pub row_from : List ℕ → ℕ → Row
 row_from s a = record {
-  lc_mask = pair_at s a;
-  lc_value = pair_at s (a + 2);
-  rni_mask = byte_at s (a + 4);
-  rni_value = byte_at s (a + 5);
-  tr_mask = byte_at s (a + 6);
-  tr_value = byte_at s (a + 7);
-  tsr_mask = byte_at s (a + 8);
-  tsr_value = byte_at s (a + 9);
-  interrupt_mask = byte_at s (a + 10);
-  interrupt_value = byte_at s (a + 11);
-  address = pair_at s (a + 12);
-  lines = byte_at s (a + 14);
-  new_tsr = byte_at s (a + 15);
+  mask = record {
+    lc = pair_at s a;
+    rni = byte_at s (a + 4);
+    tr = byte_at s (a + 6);
+    tsr = byte_at s (a + 8);
+    interrupts = byte_at s (a + 10);
+  };
+  value = record {
+    lc = pair_at s (a + 2);
+    rni = byte_at s (a + 5);
+    tr = byte_at s (a + 7);
+    tsr = byte_at s (a + 9);
+    interrupts = byte_at s (a + 11);
+  };
+  outputs = record { address = pair_at s (a + 12); lines = byte_at s (a + 14); new_tsr = byte_at s (a + 15) };
 }
 
 -- the first n rows of the section

@@ -8,24 +8,6 @@ ghost use Rattle.rows.specs.Packing.{side_by_side, key_of, packed_of, matched_in
 ghost use Rattle.rows.specs.Table.{whole_rows, table_of};
 ghost use Rattle.rows.specs.Range.{masks_fit, outputs_fit, values_in_masks, row_in_range};
 
-// A row as its sixteen bytes give it, in their order.
-#[derive(Clone, Copy)]
-pub struct Row {
-    pub lc_mask: u16,
-    pub lc_value: u16,
-    pub rni_mask: u8,
-    pub rni_value: u8,
-    pub tr_mask: u8,
-    pub tr_value: u8,
-    pub tsr_mask: u8,
-    pub tsr_value: u8,
-    pub interrupt_mask: u8,
-    pub interrupt_value: u8,
-    pub address: u16,
-    pub lines: u8,
-    pub new_tsr: u8,
-}
-
 // What rows are matched against, all as before the attempt: rni is bit 17 of the word, tr the selected TR byte,
 // tsr TSR bits 1-0, and interrupts has I0-I6 in bits 0-6.
 #[derive(Clone, Copy)]
@@ -37,12 +19,21 @@ pub struct Inputs {
     pub interrupts: u8,
 }
 
-// What the matching rows give: the address for LTA, the lines (bit 0 LTA, 1 LRA, 2 LTSR), the new TSR for LTSR.
+// What the matching rows give: the address for LTA, the lines (bit 0 LTA, 1 LRA, 2 LTSR), the new TSR for LTSR. They stay numbers, a line's bit
+// beside its value, since 01 ORs the outputs of all matching rows: the address of a row without LTA counts too.
 #[derive(Clone, Copy)]
 pub struct Outputs {
     pub address: u16,
     pub lines: u8,
     pub new_tsr: u8,
+}
+
+// A row: it matches inputs that equal its values under its masks, and then gives its outputs.
+#[derive(Clone, Copy)]
+pub struct Row {
+    pub mask: Inputs,
+    pub value: Inputs,
+    pub outputs: Outputs,
 }
 
 // A row made ready for matching: its masks side by side in one number, its values in another, its outputs in a third.
@@ -55,44 +46,31 @@ pub struct Packed {
 
 // LC in bits 0-10, RNI in 11, TSR bits 1-0 in 12-13, I0-I6 in 14-20, the TR byte above them.
 #[tactic(auto, unfolding(crate::specs::Packing::side_by_side))]
-fn side_by_side(lc: u16, rni: u8, tr: u8, tsr: u8, interrupts: u8) -> u32
-    ensures { result ≡ side_by_side lc rni tr tsr interrupts }
+fn side_by_side(i: Inputs) -> u32
+    ensures { result ≡ side_by_side i }
 {
-    lc as u32 % 0x800
-        + 0x800 * (rni as u32 % 2)
-        + 0x1000 * (tsr as u32 % 4)
-        + 0x4000 * (interrupts as u32 % 128)
-        + 0x20_0000 * (tr as u32)
+    i.lc as u32 % 0x800
+        + 0x800 * (i.rni as u32 % 2)
+        + 0x1000 * (i.tsr as u32 % 4)
+        + 0x4000 * (i.interrupts as u32 % 128)
+        + 0x20_0000 * (i.tr as u32)
 }
 
 pub fn key(i: Inputs) -> u32
     ensures { result ≡ key_of i }
 {
-    side_by_side(i.lc, i.rni, i.tr, i.tsr, i.interrupts)
+    side_by_side(i)
 }
 
 #[tactic(auto, unfolding(crate::specs::Packing::packed_of))]
 fn pack(row: Row) -> Packed
     ensures { result ≡ packed_of row }
 {
+    let o = row.outputs;
     Packed {
-        mask: side_by_side(
-            row.lc_mask,
-            row.rni_mask,
-            row.tr_mask,
-            row.tsr_mask,
-            row.interrupt_mask,
-        ),
-        value: side_by_side(
-            row.lc_value,
-            row.rni_value,
-            row.tr_value,
-            row.tsr_value,
-            row.interrupt_value,
-        ),
-        outputs: row.address as u32
-            + 0x1_0000 * (row.lines as u32)
-            + 0x100_0000 * (row.new_tsr as u32),
+        mask: side_by_side(row.mask),
+        value: side_by_side(row.value),
+        outputs: o.address as u32 + 0x1_0000 * (o.lines as u32) + 0x100_0000 * (o.new_tsr as u32),
     }
 }
 
@@ -110,11 +88,13 @@ pub fn merged(o: u32, row: Packed, key: u32) -> u32
     ensures { result ≡ merged_in o row key }
 {
     if matched(row, key) {
-        return o | row.outputs;
+        o | row.outputs
+    } else {
+        o
     }
-    o
 }
 
+// A function and no constant, which could not promise that it is the paper's.
 pub fn none() -> Outputs
     ensures { result ≡ none }
 {
@@ -137,16 +117,14 @@ pub fn unpacked(o: u32) -> Outputs
 }
 
 // The outputs of all matching rows, ORed. The rows stay the caller's.
+#[tactic(auto, using(crate::proofs::Steps::scan_step))]
 pub fn scan(rows: &[Packed], i: Inputs) -> Outputs
     ensures { result ≡ scan_in rows.now i }
 {
     let key = key(i);
-    let n = rows.len();
-    let mut o: u32 = 0;
-    let mut k = 0;
-    while k < n {
-        o = merged(o, rows[k], key);
-        k = k + 1;
+    let mut o = 0;
+    for row in rows {
+        o = merged(o, *row, key);
     }
     unpacked(o)
 }
@@ -155,10 +133,10 @@ pub fn scan(rows: &[Packed], i: Inputs) -> Outputs
 pub fn whole(s: &[u8]) -> usize
     ensures { result ≡ whole_rows s.now }
 {
-    let n = s.len() / 16;
-    if n < 128 { n } else { 128 }
+    (s.len() / 16).min(128)
 }
 
+// Three functions for three bits: one that took the bit's number would be longer at each call, and ask that the number is below 8.
 pub fn lta(o: Outputs) -> bool
     ensures { result ≡ lta o }
 {
@@ -177,20 +155,20 @@ pub fn ltsr(o: Outputs) -> bool
     o.lines / 4 % 2 == 1
 }
 
-// No mask of the row has an unused bit.
+// No mask has an unused bit.
 #[tactic(auto, unfolding(crate::specs::Range::masks_fit))]
-fn masks_fit(row: Row) -> bool
-    ensures { result ≡ masks_fit row }
+fn masks_fit(m: Inputs) -> bool
+    ensures { result ≡ masks_fit m }
 {
-    (row.lc_mask <= 2047) & (row.rni_mask <= 1) & (row.tsr_mask <= 3) & (row.interrupt_mask <= 127)
+    (m.lc <= 2047) & (m.rni <= 1) & (m.tsr <= 3) & (m.interrupts <= 127)
 }
 
-// No output of the row has an unused bit.
+// No output has an unused bit.
 #[tactic(auto, unfolding(crate::specs::Range::outputs_fit))]
-fn outputs_fit(row: Row) -> bool
-    ensures { result ≡ outputs_fit row }
+fn outputs_fit(o: Outputs) -> bool
+    ensures { result ≡ outputs_fit o }
 {
-    (row.address <= 2047) & (row.lines <= 7) & (row.new_tsr <= 7)
+    (o.address <= 2047) & (o.lines <= 7) & (o.new_tsr <= 7)
 }
 
 // No value of the row has a bit outside its mask.
@@ -198,55 +176,62 @@ fn outputs_fit(row: Row) -> bool
 fn values_in_masks(row: Row) -> bool
     ensures { result ≡ values_in_masks row }
 {
-    ((row.lc_value & row.lc_mask) == row.lc_value)
-        & ((row.rni_value & row.rni_mask) == row.rni_value)
-        & ((row.tr_value & row.tr_mask) == row.tr_value)
-        & ((row.tsr_value & row.tsr_mask) == row.tsr_value)
-        & ((row.interrupt_value & row.interrupt_mask) == row.interrupt_value)
+    let m = row.mask;
+    let v = row.value;
+    ((v.lc & m.lc) == v.lc)
+        & ((v.rni & m.rni) == v.rni)
+        & ((v.tr & m.tr) == v.tr)
+        & ((v.tsr & m.tsr) == v.tsr)
+        & ((v.interrupts & m.interrupts) == v.interrupts)
 }
 
 #[tactic(auto, unfolding(crate::specs::Range::row_in_range))]
 pub fn in_range(row: Row) -> bool
     ensures { result ≡ row_in_range row }
 {
-    masks_fit(row) & outputs_fit(row) & values_in_masks(row)
+    masks_fit(row.mask) & outputs_fit(row.outputs) & values_in_masks(row)
 }
 
+// Masks and values alternate, and the outputs stand last. It runs once for a row, and two callers share it.
+#[inline(never)]
 #[tactic(auto, unfolding(crate::specs::Section::row_from))]
 fn row_from(s: &[u8], a: usize) -> Row
     requires { a ≤ length s.now }
     ensures { result ≡ row_from s.now a }
 {
     Row {
-        lc_mask: numbers::pair_at(s, a),
-        lc_value: numbers::pair_at(s, a + 2),
-        rni_mask: numbers::byte_at(s, a + 4),
-        rni_value: numbers::byte_at(s, a + 5),
-        tr_mask: numbers::byte_at(s, a + 6),
-        tr_value: numbers::byte_at(s, a + 7),
-        tsr_mask: numbers::byte_at(s, a + 8),
-        tsr_value: numbers::byte_at(s, a + 9),
-        interrupt_mask: numbers::byte_at(s, a + 10),
-        interrupt_value: numbers::byte_at(s, a + 11),
-        address: numbers::pair_at(s, a + 12),
-        lines: numbers::byte_at(s, a + 14),
-        new_tsr: numbers::byte_at(s, a + 15),
+        mask: Inputs {
+            lc: numbers::pair_at(s, a),
+            rni: numbers::byte_at(s, a + 4),
+            tr: numbers::byte_at(s, a + 6),
+            tsr: numbers::byte_at(s, a + 8),
+            interrupts: numbers::byte_at(s, a + 10),
+        },
+        value: Inputs {
+            lc: numbers::pair_at(s, a + 2),
+            rni: numbers::byte_at(s, a + 5),
+            tr: numbers::byte_at(s, a + 7),
+            tsr: numbers::byte_at(s, a + 9),
+            interrupts: numbers::byte_at(s, a + 11),
+        },
+        outputs: Outputs {
+            address: numbers::pair_at(s, a + 12),
+            lines: numbers::byte_at(s, a + 14),
+            new_tsr: numbers::byte_at(s, a + 15),
+        },
     }
 }
 
 // The row that begins at byte a of a rows section. What is missing reads as 0, so every place past the end gives what the end gives.
+#[tactic(auto, using(crate::proofs::Steps::row_past))]
 pub fn row_at(s: &[u8], a: usize) -> Row
     ensures { result ≡ row_from s.now a }
 {
-    let n = s.len();
-    if a < n {
-        row_from(s, a)
-    } else {
-        row_from(s, n)
-    }
+    row_from(s, a.min(s.len()))
 }
 
 // A rows section made a table: its whole rows, at most 128, each packed, and empty rows after them.
+#[tactic(auto, using(crate::proofs::Steps::filled_none, crate::proofs::Steps::filled_more))]
 pub fn load(s: &[u8]) -> [Packed; 128]
     ensures { result ≡ table_of s.now }
 {
@@ -256,11 +241,8 @@ pub fn load(s: &[u8]) -> [Packed; 128]
         outputs: 0,
     };
     let mut table = [empty; 128];
-    let n = whole(s);
-    let mut filled = 0;
-    while filled < n {
+    for filled in 0..whole(s) {
         table[filled] = pack(row_at(s, filled * 16));
-        filled = filled + 1;
     }
     table
 }

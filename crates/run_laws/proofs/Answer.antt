@@ -18,8 +18,7 @@ use Rattle.attempt_laws.proofs.Refusal.{executes}
 use Rattle.checks.specs.Checks.{designator_refusal_of, word_refusal_of, waiting_of}
 use Rattle.choose.specs.Ranged.{pick}
 use Rattle.code.specs.CodeRows.{class_of, listed, options_of}
-use Rattle.code.specs.Word.{top_of, apart_of}
-use Rattle.code.specs.declared.Apart.{Apart}
+use Rattle.code.specs.Word.{Apart, top_of, apart_of}
 use Rattle.code.specs.declared.Fields.{Fields}
 use Rattle.code.specs.declared.Operands.{Operands}
 use Rattle.engine.specs.Run.{World, stepped_of, stopped_of, run_from}
@@ -32,7 +31,7 @@ use Rattle.state.specs.declared.Latches.{Latches}
 use Rattle.state.specs.declared.Sample.{Sample}
 use Rattle.run_laws.specs.Laws.{SamplesInRange, WordsInRange, Number, Counted}
 use Rattle.state.specs.File.{Leaves}
-use Rattle.attempt.specs.declared.Outcome.{Outcome}
+use Rattle.attempt.specs.Outcome.{Outcome}
 
 -- ---- how many samples are used
 

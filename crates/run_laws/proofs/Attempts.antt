@@ -9,7 +9,7 @@ use borrow.Author.Tests.{eqb-true, eqb-false}
 use lib.Dec.{eqb}
 use lib.ListN.{length, get_or}
 use Rattle.attempt.specs.Attempt.{attempt_of}
-use Rattle.attempt.specs.declared.Outcome.{Outcome}
+use Rattle.attempt.specs.Outcome.{Outcome}
 use Rattle.choose.specs.Ranged.{pick}
 use Rattle.engine.specs.Run.{World, put4_of, stepped_of, stopped_of, run_from}
 use Rattle.engine.proofs.Places.{put-quad, put-length}

@@ -1,7 +1,7 @@
 -- The attempts of a run one by one, told without the run: "Samples: 0 to 65,535, one for each attempt". Each starts from what the one before it left.
 use Rattle.std.specs.Prelude.{ℕ, zero, suc, ◌+◌, ◌*◌, ◌<◌, ◌≤◌, ◌≡◌, List, length}
 use Rattle.attempt.specs.Attempt.{attempt_of}
-use Rattle.attempt.specs.declared.Outcome.{Outcome}
+use Rattle.attempt.specs.Outcome.{Outcome}
 use Rattle.attempt_laws.specs.Fate.{fate_of, completed}
 use Rattle.engine.specs.Run.{World}
 use Rattle.numbers.specs.Numbers.{quad_at}

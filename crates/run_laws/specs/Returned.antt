@@ -1,6 +1,6 @@
 -- What the host is handed back after the attempts of a deck, one by one.
 use Rattle.std.specs.Prelude.{ℕ, ◌*◌, ◌/◌, ◌<◌, ◌≤◌, ◌≡◌, List, length, get_or}
-use Rattle.attempt.specs.declared.Outcome.{Outcome}
+use Rattle.attempt.specs.Outcome.{Outcome}
 use Rattle.deck.specs.Elements.{sample_at}
 use Rattle.deck.specs.Sections.{words_part, rows_part, state_part, samples_part}
 use Rattle.engine.specs.Host.{Hosted}

@@ -11,7 +11,7 @@ use lib.Seq.{ext_get_or}
 use borrow.Author.Tests.{eqb-true, eqb-false}
 use Rattle.alu.specs.declared.Flags.{Flags}
 use Rattle.attempt.specs.Attempt.{attempt_of}
-use Rattle.attempt.specs.declared.Outcome.{Outcome}
+use Rattle.attempt.specs.Outcome.{Outcome}
 use Rattle.attempt_laws.proofs.Range.{attempt-in-range}
 use Rattle.attempt_laws.specs.Fate.{within}
 use Rattle.choose.specs.Ranged.{pick}

@@ -1,7 +1,7 @@
 -- 02, L2: "a left shift agrees with adding the operand to itself in result, C, V, N and Z, the C flag being the carry in for the forms with carry". Two
 -- attempts from the same state but for Ra: what is given of them, and what they leave alike.
 use Rattle.std.specs.Prelude.{ℕ, ◌+◌, ◌/◌, ◌%◌, ◌<◌, ◌≡◌, Bool, true, false, List, [], ◌∷◌, length}
-use Rattle.attempt.specs.declared.Outcome.{Outcome}
+use Rattle.attempt.specs.Outcome.{Outcome}
 use Rattle.attempt_laws.specs.Fate.{within, top_in, b_in, a_in, taken_word}
 use Rattle.choose.specs.Ranged.{pick}
 use Rattle.rows.specs.Range.{rows_in_range}

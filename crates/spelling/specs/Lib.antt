@@ -1,2 +1,2 @@
 pub mod Spelling
-pub mod Laid
+pub mod Line

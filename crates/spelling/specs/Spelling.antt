@@ -1,6 +1,6 @@
 -- The fixed spelling of a word: "address 3 digits, mnemonic, operands with the digits of their width, the don't-care operand only when it isn't zero,
 -- then ODD, RR, RNI, U with its digit, each only when set; single spaces; upper case; a newline after every line".
-use Rattle.std.specs.Prelude.{ℕ, ◌+◌, ◌*◌, ◌/◌, ◌%◌, Bool, not, ◌||◌, List, [], ◌∷◌, ◌++◌, eqb, ltb}
+use Rattle.std.specs.Prelude.{ℕ, ◌+◌, ◌*◌, ◌/◌, ◌%◌, Bool, not, ◌||◌, List, [], ◌∷◌, ◌++◌, Option, Some, None, eqb, ltb}
 use Rattle.choose.specs.Ranged.{pick}
 use Rattle.code.specs.Word.{low_of}
 use Rattle.code.specs.declared.Fields.{Fields}
@@ -16,6 +16,11 @@ hex_digit n = pick (ltb (n % 0x10) 10) (0x30 + n % 0x10) (0x37 + n % 0x10)
 abbrev pub digit_if : Bool → ℕ → List ℕ
 digit_if given n = pick given (hex_digit n ∷ []) []
 
+-- a digit that there is or isn't, as the code has it
+abbrev pub digit_in : Option ℕ → List ℕ
+digit_in None = []
+digit_in (Some n) = hex_digit n ∷ []
+
 -- the last k digits of a number, of three at most
 unfoldable pub digits_of : ℕ → ℕ → List ℕ
 digits_of k n = digit_if (ltb 2 k) (n / 0x100) ++ digit_if (ltb 1 k) (n / 0x10) ++ digit_if (ltb 0 k) n
@@ -30,6 +35,10 @@ letters_of name = letter_if (name / 0x100_0000) ++ letter_if (name / 0x1_0000) +
 abbrev pub operand_of : Bool → ℕ → ℕ → List ℕ
 operand_of given k n = pick given (0x20 ∷ digits_of k n) []
 
+abbrev pub operand_in : ℕ → Option ℕ → List ℕ
+operand_in k None = []
+operand_in k (Some n) = 0x20 ∷ digits_of k n
+
 -- "with don't-care bits as a trailing operand when they aren't zero"
 unfoldable pub operands_of : Form → ℕ → List ℕ
 operands_of form low =
@@ -38,6 +47,10 @@ operands_of form low =
 
 abbrev pub mark_of : Bool → ℕ → List ℕ
 mark_of given name = pick given (0x20 ∷ letters_of name) []
+
+abbrev pub mark_in : Option ℕ → List ℕ
+mark_in None = []
+mark_in (Some name) = 0x20 ∷ letters_of name
 
 -- U, a digit and two spaces as one name
 unfoldable pub user_name : ℕ → ℕ

@@ -4,13 +4,14 @@
 ghost use Rattle.std.specs.Prelude.{◌≡◌, ◌<◌, ◌≤◌};
 ghost use Rattle.state.specs.File.{slot_of, high_of, register_of, written_of};
 ghost use Rattle.state.specs.FlagByte.{nibble_of, flag_byte_of, flags_of};
-ghost use Rattle.state.specs.Marking.{is_marking, marking_of};
+ghost use Rattle.state.specs.Marking.{marking_in};
 
 use alu::Flags;
 use choose::bit_of;
+use refusals::Refusal;
 
 // What tells the next word: location counter, return register, translation state register.
-#[derive(Clone, Copy)]
+#[derive(Clone, Copy, Debug, PartialEq, Eq)]
 pub struct Address {
     pub lc: u16,
     pub rr: u16,
@@ -18,7 +19,7 @@ pub struct Address {
 }
 
 // What stands on the bus: M, SYNC and IACK.
-#[derive(Clone, Copy)]
+#[derive(Clone, Copy, Debug, PartialEq, Eq)]
 pub struct Bus {
     pub m: u16,
     pub sync: bool,
@@ -26,7 +27,8 @@ pub struct Bus {
 }
 
 // What else the instructions load: G, TR, ICS, the internal interrupts I4-I6 and the waiting modification, 0 when unmarked.
-#[derive(Clone, Copy)]
+// Mark and number stand apart, as in the state's bytes: of any 42 bytes, also of a number without its mark, both are promised back.
+#[derive(Clone, Copy, Debug, PartialEq, Eq)]
 pub struct Latches {
     pub modification: u16,
     pub marked: bool,
@@ -37,14 +39,14 @@ pub struct Latches {
 }
 
 // What is printed on the control chip: CP1661B is the base, CP1621B has Q1.
-#[derive(Clone, Copy)]
+#[derive(Clone, Copy, Debug, PartialEq, Eq)]
 pub enum Marking {
     CP1661B,
     CP1621B,
 }
 
 // The outputs are the user's four, bits 18-21 of the last executed word. The marking is the set's own: a run names it, and no attempt changes it.
-#[derive(Clone, Copy)]
+#[derive(Clone, Copy, Debug, PartialEq, Eq)]
 pub struct Core {
     pub flags: Flags,
     pub address: Address,
@@ -54,25 +56,24 @@ pub struct Core {
     pub marking: Marking,
 }
 
-pub fn is_marking(number: u32) -> bool
-    ensures { result ≡ is_marking number }
-{
-    (number == 1661) | (number == 1621)
-}
-
-// The marking of a number that is one.
+// The numbers are those that are printed on the chips.
 #[tactic(auto, unfolding(crate::specs::Marking::marking_of))]
-pub fn marking_of(number: u32) -> Marking
-    ensures { result ≡ marking_of number }
-{
-    if number == 1621 {
-        return Marking::CP1621B;
+impl TryFrom<u32> for Marking {
+    type Error = Refusal;
+
+    ghost try_from_gives = { λ number result. result ≡ marking_in number };
+
+    fn try_from(number: u32) -> Result<Self, Refusal> {
+        match number {
+            1661 => Ok(Marking::CP1661B),
+            1621 => Ok(Marking::CP1621B),
+            _ => Err(Refusal::NoMarking),
+        }
     }
-    Marking::CP1661B
 }
 
 // The lines as one attempt samples them; interrupts are I0-I3.
-#[derive(Clone, Copy)]
+#[derive(Clone, Copy, Debug, PartialEq, Eq)]
 pub struct Sample {
     pub reply: bool,
     pub dal: u16,
@@ -107,6 +108,7 @@ pub fn high(d: u8) -> u8
     d % 16 ^ 1
 }
 
+// G stands beside the file, in no struct with it: a struct that held the lent file would have each function promise besides that it keeps the loan.
 #[tactic(auto, unfolding(crate::specs::File::register_of))]
 pub fn register(file: &[u8; 26], g: u8, d: u8) -> u8
     ensures { result ≡ register_of file.now g d }
@@ -130,6 +132,7 @@ pub fn nibble(a: bool, b: bool, c: bool, d: bool) -> u8
     bit_of(a) * 8 + bit_of(b) * 4 + bit_of(c) * 2 + bit_of(d)
 }
 
+// By a name and not as From: the flag byte is the state's, and From of the flags would have to stand in crate alu.
 #[tactic(auto, unfolding(crate::specs::FlagByte::flag_byte_of))]
 pub fn flag_byte(f: Flags) -> u8
     ensures { result ≡ flag_byte_of f }

@@ -1,4 +1,3 @@
 pub mod Bytes
 pub mod Range
-pub mod Filled
 pub mod Order

@@ -1,9 +1,8 @@
 // The state between its bytes and the register file with the core, and the range of each.
 #![tactic(auto)]
 
-ghost use Rattle.std.specs.Prelude.{◌≡◌, ◌+◌, ◌≤◌, length};
+ghost use Rattle.std.specs.Prelude.{◌≡◌};
 ghost use Rattle.state_bytes.specs.Bytes.{address_of, bus_of, latches_of, core_of, Loaded, tail_of, stored_of};
-ghost use Rattle.state_bytes.specs.Filled.{filled_of};
 ghost use Rattle.state_bytes.specs.Range.{address_in_range, latches_in_range, core_in_range, state_in_range};
 
 use state::{Address, Bus, Core, Latches, Marking};
@@ -58,25 +57,12 @@ fn core_in(s: &[u8], marking: Marking) -> Core
     let bus = bus_in(s);
     let latches = latches_in(s);
     Core {
-        flags: flags,
-        address: address,
-        bus: bus,
-        latches: latches,
+        flags,
+        address,
+        bus,
+        latches,
         outputs: numbers::byte_at(s, 41),
         marking,
-    }
-}
-
-// The first n bytes of src, zeros where it has fewer, go into dst from byte at on.
-#[tactic(auto, unfolding(crate::specs::Filled::filled_of))]
-fn fill(dst: &mut [u8], at: usize, src: &[u8], n: usize)
-    requires { at + n ≤ length dst.old }
-    ensures { dst.new ≡ filled_of dst.old at src.now n }
-{
-    let mut i = 0;
-    while i < n {
-        dst[at + i] = numbers::byte_at(src, i);
-        i += 1;
     }
 }
 
@@ -84,11 +70,13 @@ fn fill(dst: &mut [u8], at: usize, src: &[u8], n: usize)
 pub fn load(s: &[u8], marking: Marking, file: &mut [u8; 26]) -> Core
     ensures { Loaded s.now marking result file.new }
 {
-    fill(file, 0, s, 26);
+    for i in 0..26 {
+        file[i] = numbers::byte_at(s, i);
+    }
     core_in(s, marking)
 }
 
-// The bytes after the registers.
+// The bytes after the registers, one to a line as 01 lists them; by to_le_bytes each number would be named once more before the list.
 #[tactic(auto, unfolding(crate::specs::Bytes::tail_of))]
 fn tail(core: Core) -> [u8; 16]
     ensures { result ≡ tail_of core }
@@ -122,9 +110,9 @@ pub fn store(core: Core, file: &[u8; 26], out: &mut [u8])
     ensures { out.new ≡ stored_of file.now core out.old }
 {
     if out.len() == STATE_BYTES {
-        let rest = tail(core);
-        fill(out, 0, file, 26);
-        fill(out, 26, &rest, 16);
+        let (registers, rest) = out.split_at_mut(file.len());
+        registers.copy_from_slice(file);
+        rest.copy_from_slice(&tail(core));
     }
 }
 

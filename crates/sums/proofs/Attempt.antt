@@ -7,15 +7,15 @@ use native.Mathlib.Omega.{arith}
 use lib.Dec.{eqb, ltb}
 use lib.ListN.{length}
 use borrow.Author.Tests.{lt-ltb, le-ltb}
+use Rattle.std.specs.Prelude.{Ok}
 use Rattle.alu.specs.declared.Flags.{Flags}
-use Rattle.attempt.specs.Attempt.{outcome_of, executed_of, checked_of, modified_of, fetched_of, attempted_of, outputs_of, attempt_of}
+use Rattle.attempt.specs.Attempt.{executed_of, checked_of, modified_of, fetched_of, attempted_of, outputs_of, attempt_of}
 use Rattle.numbers.specs.Numbers.{word_at}
 use Rattle.attempt.specs.Effect.{register_effect, effect_of}
 use Rattle.checks.specs.Checks.{designator_refusal_of, word_refusal_of}
 use Rattle.choose.specs.Ranged.{bit, pick}
 use Rattle.code.specs.CodeRows.{class_of}
 use Rattle.code.specs.Word.{operands_in, fields_in, apart_of}
-use Rattle.code.specs.declared.Apart.{Apart}
 use Rattle.code.specs.declared.Class.{Class}
 use Rattle.code.specs.declared.Fields.{Fields}
 use Rattle.code.specs.declared.Operands.{Operands}
@@ -33,7 +33,7 @@ use Rattle.sums.specs.Sums.Step.{byte, pair}
 use Rattle.sums.proofs.Codes.{cycles, options, goes_on, bus-kept, latches-kept, no-request, no-rtsr, working, class, no-cad, word-bit, step_carry}
 use Rattle.sums.proofs.Cycles.{Fits, step_made, step_is}
 use Rattle.state.specs.File.{Leaves, leaves}
-use Rattle.attempt.specs.declared.Outcome.{Outcome}
+use Rattle.attempt.specs.Outcome.{Outcome, outcome_of}
 
 -- ---- the word
 
@@ -55,7 +55,7 @@ fields_at w c b a =
     }
 
 apart-is : (w c b a : ℕ) → class_of c ≡ Class.Register → w < 0x40_0000 → b ≤ 0xF → a ≤ 0xF → w % 0x1_0000 ≡ c * 0x100 + b * 0x10 + a
-    → apart_of w ≡ Apart.Word (fields_at w c b a)
+    → apart_of w ≡ Ok (fields_at w c b a)
 unfolding apart_of fields_in operands_in
 apart-is w c b a k h hb ha e =
     let d = digits w c b a hb ha e in

@@ -11,6 +11,7 @@ use Rattle.alu.specs.declared.Kind.{Kind}
 use Rattle.checks.specs.Checks.{waiting_of}
 use Rattle.choose.proofs.Ranged.{in-arm}
 use Rattle.choose.specs.Ranged.{bit, ranged}
+use Rattle.code.specs.declared.Waits.{Waits}
 use Rattle.code.specs.CodeRows.{class_of, cycles_of, waits_of, options_of, word_bit}
 use Rattle.code.specs.declared.Class.{Class}
 use Rattle.control.specs.Bus.{bus_after, request_of}
@@ -42,12 +43,12 @@ module _ (c : ℕ) (h : Working c) where
   unfolding options_of
   options = in-arm c _ _ 0 0x80 tt h.0 h.1
 
-  no-waits : waits_of c ≡ 0
+  no-waits : waits_of c ≡ Waits.Never
   unfolding waits_of
   no-waits = in-arm c _ _ 0 0x80 tt h.0 h.1
 
   pub goes_on : (s : Sample) → waiting_of c s ≡ false
-  unfolding waiting_of ranged
+  unfolding waiting_of
   goes_on s = rw no-waits
 
   pub bus-kept : (bus : Bus) (rmw : Bool) (pair : ℕ) → bus_after bus c rmw pair ≡ bus

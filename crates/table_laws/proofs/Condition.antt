@@ -8,7 +8,7 @@ use lib.Dec.{T, leb, leb→le}
 use Rattle.alu.specs.declared.Flags.{Flags}
 use Rattle.attempt.specs.Attempt.{executed_of, outputs_of, attempt_of}
 use Rattle.attempt.specs.Effect.{register_effect, effect_of}
-use Rattle.attempt.specs.declared.Outcome.{Outcome}
+use Rattle.attempt.specs.Outcome.{Outcome}
 use Rattle.attempt_laws.proofs.Fate.{attempt-fate}
 use Rattle.attempt_laws.specs.Fate.{completed, within, b_in, a_in, taken_word, fate_of, EndsAs}
 use Rattle.choose.proofs.Ranged.{in-arm}

@@ -1,17 +1,18 @@
 -- The table's other columns hold of attempts: the microcycles of each, and the fate of each word by its row alone. Assumes nothing.
 use Prim.Native.Nat.{ℕ, ◌<◌}
 use mathlib.Core.Path.{◌≡◌, refl, ap, ◌∙◌}
-use mathlib.Core.Bool.{Bool, true, false, not, ◌&&◌, ◌||◌, beq}
+use mathlib.Core.Bool.{Bool, true, false, not, ◌||◌, beq}
 use mathlib.Core.List.{List}
 use native.Mathlib.Omega.{arith}
 use lib.Dec.{eqb, ltb}
 use borrow.Author.Tests.{lt-ltb}
+use Rattle.std.specs.Prelude.{Ok}
 use Rattle.attempt.specs.Attempt.{executed_of, outputs_of, attempt_of}
 use Rattle.attempt_laws.proofs.Fate.{attempt-fate}
 use Rattle.attempt_laws.specs.Fate.{Fate, refused, waited, reset, compute-low, completed}
-use Rattle.attempt_laws.specs.Fate.{within, no_code, no_option, must_wait, b_in, word_fate, taken_word, fate_of, EndsAs}
+use Rattle.attempt_laws.specs.Fate.{no_code, no_option, must_wait, b_in, word_fate, taken_word, fate_of, EndsAs}
 use Rattle.choose.proofs.Table.{below}
-use Rattle.choose.proofs.Tests.{both_left, both_right, equal-tests}
+use Rattle.choose.proofs.Tests.{equal-tests}
 use Rattle.choose.specs.Below.{all_below}
 use Rattle.choose.specs.Ranged.{pick, ranged}
 use Rattle.code.proofs.Digits.{row-of-code}
@@ -19,7 +20,6 @@ use Rattle.code.proofs.Laws.{apart-well-formed, apart-code}
 use Rattle.code.proofs.Shape.{fit-listed}
 use Rattle.code.specs.CodeRows.{class_of, listed, cycles_of, waits_of, options_of, row_of}
 use Rattle.code.specs.Word.{top_of, apart_of}
-use Rattle.code.specs.declared.Apart.{Apart}
 use Rattle.code.specs.declared.Fields.{Fields}
 use Rattle.code.specs.declared.CodeRow.{CodeRow}
 use Rattle.rows.specs.declared.Outputs.{Outputs}
@@ -28,7 +28,7 @@ use Rattle.state.specs.declared.Core.{Core}
 use Rattle.state.specs.declared.Sample.{Sample}
 use Rattle.table_laws.specs.Fates.{cost_of, waits_by, row_fate}
 use Rattle.state.specs.File.{Leaves}
-use Rattle.attempt.specs.declared.Outcome.{Outcome}
+use Rattle.attempt.specs.Outcome.{Outcome}
 
 -- ---- microcycles
 
@@ -37,7 +37,7 @@ unfolding row_of
 row-cycles code l = rw l
 
 -- an executed word costs its row's cycles
-executed-cost : (word : ℕ) (xs : List ℕ) (k : Core) (s : Sample) (o : Outputs) (w : Fields) → apart_of word ≡ Apart.Word w
+executed-cost : (word : ℕ) (xs : List ℕ) (k : Core) (s : Sample) (o : Outputs) (w : Fields) → apart_of word ≡ Ok w
     → (executed_of xs k w s o).back.cycles ≡ (row_of (top_of word)).cycles
 unfolding executed_of
 executed-cost word xs k s o w e =
@@ -74,23 +74,25 @@ module _ (code : ℕ) (h : code < 0x100) (l : no_code code ≡ false) where
       let test : ℕ → ℕ → Bool = λ x y. beq (no_option x y) (ltb (row_of x).options y) in
       equal-tests _ _ (below 16 (test code) (rw l at (below 0x100 (λ x. pick (no_code x) true (all_below 16 (test x))) tt code h)) b i)
 
-  must-wait : (reply busy : Bool) → must_wait code reply busy ≡ waits_by (row_of code) reply busy
+  must-wait : (reply busy : Bool) → must_wait code reply busy ≡ waits_by (row_of code).waits reply busy
   unfolding must_wait row_of class_of ranged waits_of
-  must-wait reply busy =
-      let busies : ℕ → Bool = λ x. beq (within 0xF0 0xFB x) (eqb (row_of x).waits 1) in
-      let replies : ℕ → Bool = λ x. beq (within 0xE0 0xE3 x || within 0xFC 0xFD x) (eqb (row_of x).waits 2) in
-      let t = below 0x100 (λ x. busies x && replies x) tt code h in
-      rw (
-        equal-tests (within 0xF0 0xFB code) _ (both_left (busies code) (replies code) t),
-        equal-tests (within 0xE0 0xE3 code || within 0xFC 0xFD code) _ (both_right (busies code) (replies code) t),
-      )
+  must-wait = go
+    where
+      test : Bool → Bool → ℕ → Bool
+      test reply busy x = beq (must_wait x reply busy) (waits_by (row_of x).waits reply busy)
+
+      go : (reply busy : Bool) → must_wait code reply busy ≡ waits_by (row_of code).waits reply busy
+      go true true = equal-tests _ _ (below 0x100 (test true true) tt code h)
+      go true false = equal-tests _ _ (below 0x100 (test true false) tt code h)
+      go false true = equal-tests _ _ (below 0x100 (test false true) tt code h)
+      go false false = equal-tests _ _ (below 0x100 (test false false) tt code h)
 
 -- two choices by one test that differ only where it fails
 pub otherwise : {A : Type 0} (t : Bool) (a b c : A) → (t ≡ false → b ≡ c) → pick t a b ≡ pick t a c
 otherwise true a b c h = refl
 otherwise false a b c h = h refl
 
--- the table says of every word what 01's lists say: so 8 is given only where b is over `options`, and a word waits only where `waits` is not 0
+-- the table says of every word what 01's lists say: so 8 is given only where b is over `options`, and a word waits only where `waits` is not Never
 pub word-fate-is : (word : ℕ) (s : Sample) → word < 0x40_0000 → word_fate word s ≡ row_fate (row_of (top_of word)) word s
 unfolding word_fate row_fate
 word-fate-is word s h =

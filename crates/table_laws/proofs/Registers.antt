@@ -11,8 +11,10 @@ use Rattle.attempt.specs.Attempt.{attempt_of}
 use Rattle.attempt_laws.specs.Fate.{b_in, a_in, taken_word}
 use Rattle.choose.proofs.Table.{below}
 use Rattle.choose.specs.Ranged.{pick, ranged}
-use Rattle.code.specs.CodeRows.{class_of, listed, stores_of, row_of}
+use Rattle.code.specs.CodeRows.{class_of, listed, stores_number, stores_of, row_of}
 use Rattle.code.specs.Word.{top_of}
+use Rattle.code.specs.declared.Stores.{Stores}
+use Rattle.code.proofs.Digits.{same-stores}
 use Rattle.rows.specs.declared.Row.{Row}
 use Rattle.state.proofs.Pairs.{high-inverts, lowest-inverted}
 use Rattle.state.proofs.Registers.{named}
@@ -30,14 +32,16 @@ use Rattle.table_laws.proofs.Theorem.{attempt-registers}
 
 stores-listed : (top : ℕ) → top < 0x100 → listed (class_of top) ≡ true → stores_of top ≡ stores_by top
 unfolding class_of ranged stores_of stores_by stores_word stores_both stores_ra stores_byte compares_or_tests
-stores-listed top h e = eqb→eq _ _ (rw e at (below 0x100 (λ x. pick (listed (class_of x)) (eqb (stores_of x) (stores_by x)) true) tt top h))
+stores-listed top h e =
+    let test : ℕ → Bool = λ x. eqb (stores_number (stores_of x)) (stores_number (stores_by x)) in
+    same-stores _ _ (eqb→eq _ _ (rw e at (below 0x100 (λ x. pick (listed (class_of x)) (test x) true) tt top h)))
 
 -- each listed code's row names the registers that 01's lists say
 pub row-stores : (top : ℕ) → top < 0x100 → listed (class_of top) ≡ true → (row_of top).stores ≡ stores_by top
 unfolding row_of
 row-stores top h e = rw e (stores-listed top h e)
 
-unlisted-row : (top : ℕ) → listed (class_of top) ≡ false → (row_of top).stores ≡ 0
+unlisted-row : (top : ℕ) → listed (class_of top) ≡ false → (row_of top).stores ≡ Stores.Nothing
 unfolding row_of
 unlisted-row top e = rw e
 
@@ -47,8 +51,8 @@ module _ (g b a i : ℕ) (below-16 : a < 0x10) where
   listing word both byte = pick word (a ∷ inverted a ∷ []) (pick both (a ∷ b ∷ []) (pick byte (a ∷ []) []))
 
   listed-elsewhere : (word both byte : Bool) → Elsewhere g (listing word both byte) i
-      → Elsewhere g (stored_by (pick word 2 (pick both 3 (pick byte 1 0))) b a) i
-  unfolding stored_by ranged
+      → Elsewhere g (stored_by (pick word Stores.RaPair (pick both Stores.RaAndRb (pick byte Stores.Ra Stores.Nothing))) b a) i
+  unfolding stored_by
   listed-elsewhere true both byte (n, (m, u)) = (n, (rw (high-inverts a below-16) m, u))
   listed-elsewhere false true byte n = n
   listed-elsewhere false false true n = n
@@ -56,7 +60,7 @@ module _ (g b a i : ℕ) (below-16 : a < 0x10) where
 
   elsewhere : (top : ℕ) → top < 0x100 → Elsewhere g (listing (stores_word top) (stores_both top) (stores_ra top)) i
       → Elsewhere g (stored_by (row_of top).stores b a) i
-  unfolding stored_by ranged stores_by
+  unfolding stored_by stores_by
   elsewhere top h n = go (listed (class_of top)) refl
     where
       go : (t : Bool) → listed (class_of top) ≡ t → Elsewhere g (stored_by (row_of top).stores b a) i

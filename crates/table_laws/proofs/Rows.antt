@@ -9,8 +9,10 @@ use Rattle.attempt_laws.specs.Fate.{within}
 use Rattle.choose.proofs.Table.{below}
 use Rattle.choose.proofs.Tests.{both_left, both_right}
 use Rattle.choose.specs.Ranged.{pick, ranged}
-use Rattle.code.specs.CodeRows.{class_of, listed, status_flags_of, condition_flags_of, stores_of, row_of}
+use Rattle.code.specs.CodeRows.{class_of, listed, status_flags_of, condition_flags_of, stores_number, stores_of, row_of}
 use Rattle.code.specs.declared.Class.{Class}
+use Rattle.code.specs.declared.Stores.{Stores}
+use Rattle.code.proofs.Digits.{same-stores}
 use Rattle.plan.specs.Plan.{plan_of, literal_plan_of}
 use Rattle.table_laws.specs.Table.{compares_or_tests, sets_conditions, marks_in}
 use Rattle.table_laws.proofs.Instructions.{Columns, nothing, literal_columns, columns70_to77, register_columns}
@@ -34,17 +36,19 @@ row-says top f v h =
     let t =
     below 0x100
     (λ x.
-    eqb (word_columns (class_of x) x f v).stores (row_of x).stores &&
+    eqb (stores_number (word_columns (class_of x) x f v).stores) (stores_number (row_of x).stores) &&
     eqb (word_columns (class_of x) x f v).flags (row_of x).flags) tt top h in (
-      eqb→eq _ _ (both_left (eqb s.stores (row_of top).stores) (eqb s.flags (row_of top).flags) t),
-      eqb→eq _ _ (both_right (eqb s.stores (row_of top).stores) (eqb s.flags (row_of top).flags) t),
+      same-stores _ _ (eqb→eq _ _ (both_left (eqb (stores_number s.stores) (stores_number (row_of top).stores)) (eqb s.flags (row_of top).flags) t)),
+      eqb→eq _ _ (both_right (eqb (stores_number s.stores) (stores_number (row_of top).stores)) (eqb s.flags (row_of top).flags) t),
     )
 
 -- ---- the table has 01's lists
 
-pub compare-row : (top : ℕ) → top < 0x100 → compares_or_tests top ≡ true → (row_of top).stores ≡ 0
+pub compare-row : (top : ℕ) → top < 0x100 → compares_or_tests top ≡ true → (row_of top).stores ≡ Stores.Nothing
 unfolding compares_or_tests row_of class_of ranged stores_of
-compare-row top h e = eqb→eq _ _ (rw e at (below 0x100 (λ x. pick (compares_or_tests x) (eqb (row_of x).stores 0) true) tt top h))
+compare-row top h e =
+    let test : ℕ → Bool = λ x. eqb (stores_number (row_of x).stores) 0 in
+    same-stores _ Stores.Nothing (eqb→eq _ _ (rw e at (below 0x100 (λ x. pick (compares_or_tests x) (test x) true) tt top h)))
 
 pub condition-row : (top : ℕ) → top < 0x100 → sets_conditions top ≡ false → (row_of top).flags < 0x10
 unfolding sets_conditions row_of class_of ranged condition_flags_of status_flags_of

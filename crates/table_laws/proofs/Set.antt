@@ -1,7 +1,7 @@
 -- What a completed word sets: every line of the operations, CCF and LCF, the word forms of F0-F7, and what sets nothing. Assumes nothing.
 use Prim.Native.Nat.{ℕ, zero, suc, ◌/◌, ◌%◌, ◌<◌, ◌≤◌}
 use mathlib.Core.Path.{◌≡◌, refl, ap₂, sym, ◌∙◌}
-use mathlib.Core.Bool.{Bool, true, false, not, ◌&&◌, ◌||◌}
+use mathlib.Core.Bool.{Bool, true, false, ◌&&◌, ◌||◌}
 use mathlib.Core.List.{List}
 use native.Mathlib.Nat.{mod-eq_of_lt}
 use native.Mathlib.Omega.{arith}
@@ -15,9 +15,9 @@ use Rattle.alu.specs.declared.Flags.{Flags}
 use Rattle.alu.specs.declared.Kind.{Kind}
 use Rattle.attempt.specs.Attempt.{executed_of, outputs_of, attempt_of}
 use Rattle.attempt.specs.Effect.{jumped_of, register_effect, effect_of}
-use Rattle.attempt.specs.declared.Outcome.{Outcome}
+use Rattle.attempt.specs.Outcome.{Outcome}
 use Rattle.attempt_laws.proofs.Fate.{attempt-fate}
-use Rattle.attempt_laws.specs.Fate.{refused, completed, taken_word, fate_of, EndsAs}
+use Rattle.attempt_laws.specs.Fate.{completed, taken_word, fate_of, EndsAs}
 use Rattle.attempt_laws.specs.Fate.{within, no_code, b_in, a_in}
 use Rattle.choose.proofs.Ranged.{in-arm, in_rest}
 use Rattle.choose.proofs.Table.{below}
@@ -40,7 +40,7 @@ use Rattle.state.specs.FlagByte.{nibble_of, flag_byte_of, flags_of}
 use Rattle.state.specs.Range.{InRange, SampleInRange}
 use Rattle.state.specs.declared.Core.{Core}
 use Rattle.state.specs.declared.Sample.{Sample}
-use Rattle.table_laws.specs.Operations.{Result, sum_of, Line, Each, end, ◌also◌, written, logical_of, operations}
+use Rattle.table_laws.specs.Operations.{Result, sum_of, Line, Each, end, ◌also◌, written, logical_of}
 use Rattle.table_laws.specs.Set.{ConditionHolds, Copied, LcfLoaded, rb_after, Gained, Gains, sets_nothing, Sets, lists_with}
 use Rattle.table_laws.proofs.Arithmetic.{no, Same, byte-same}
 use Rattle.table_laws.proofs.Completes.{word-completes, taken-completes}

@@ -7,14 +7,14 @@ use mathlib.Core.List.{List}
 use native.Mathlib.Omega.{arith}
 use lib.Seq.{ext_get_or}
 use Rattle.attempt.specs.Attempt.{executed_of, reset_of, outputs_of, attempt_of}
-use Rattle.attempt.specs.declared.Outcome.{Outcome}
+use Rattle.attempt.specs.Outcome.{Outcome}
 use Rattle.attempt.specs.Effect.{jumped_of, literal_effect, register_effect, effect_of}
 use Rattle.attempt_laws.proofs.Fate.{attempt-fate}
 use Rattle.attempt_laws.specs.Fate.{Fate, refused, waited, reset, compute-low, completed, within, b_in, a_in, taken_word, fate_of, EndsAs}
-use Rattle.choose.specs.Ranged.{ranged}
 use Rattle.code.proofs.Words.{apart-is}
 use Rattle.code.specs.CodeRows.{class_of, listed, row_of}
 use Rattle.code.specs.Word.{top_of, operands_in, fields_in}
+use Rattle.code.specs.declared.Stores.{Stores}
 use Rattle.code.specs.declared.Class.{Class}
 use Rattle.rows.specs.declared.Outputs.{Outputs}
 use Rattle.rows.specs.declared.Row.{Row}
@@ -70,8 +70,8 @@ module _ (ws : List ℕ) (rs : List Row) (xs : List ℕ) (k : Core) (s : Sample)
   attempt-registers = attempt-row.registers
 
   -- so none, where the row names none
-  pub attempt-stores : (row_of (top_of (taken_word ws k))).stores ≡ 0 → (attempt_of ws rs xs k s).file ≡ xs
-  unfolding stored_by ranged
+  pub attempt-stores : (row_of (top_of (taken_word ws k))).stores ≡ Stores.Nothing → (attempt_of ws rs xs k s).file ≡ xs
+  unfolding stored_by
   attempt-stores e =
       let kept : RegistersKept _ _ _ _ = rw e at attempt-registers in
       ext_get_or 0 _ _ kept.size (λ i l. kept.byte i tt)

@@ -2,7 +2,7 @@
 -- condition does where that is met. Codes are by number, as 01 and the manual have them: they use none of the engine's tables.
 use Rattle.std.specs.Prelude.{ℕ, ◌≡◌}
 use Rattle.alu.specs.declared.Flags.{Flags}
-use Rattle.attempt.specs.declared.Outcome.{Outcome}
+use Rattle.attempt.specs.Outcome.{Outcome}
 use Rattle.attempt_laws.specs.Fate.{b_in, a_in}
 use Rattle.code.specs.Word.{top_of}
 use Rattle.state.specs.File.{Leaves}

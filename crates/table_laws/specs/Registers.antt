@@ -3,6 +3,7 @@ use Rattle.std.specs.Prelude.{ℕ, ◌≡◌, Bool, ◌||◌, List, [], ◌∷�
 use Rattle.attempt_laws.specs.Fate.{within, b_in, a_in}
 use Rattle.choose.specs.Ranged.{pick}
 use Rattle.code.specs.Word.{top_of}
+use Rattle.code.specs.declared.Stores.{Stores}
 use Rattle.state.specs.Pairs.{inverted}
 use Rattle.state.specs.Registers.{Register, name_of}
 use Rattle.table_laws.specs.Set.{stores_byte, stores_word}
@@ -15,9 +16,10 @@ stores_both code = within 0xF2 0xF3 code || within 0xF6 0xF7 code
 unfoldable pub stores_ra : ℕ → Bool
 stores_ra code = stores_byte code || eqb code 0x72
 
--- what the table's column has to be by these lists: 2 Ra's pair, 3 Ra and Rb, 1 Ra, 0 none
-unfoldable pub stores_by : ℕ → ℕ
-stores_by code = pick (stores_word code) 2 (pick (stores_both code) 3 (pick (stores_ra code) 1 0))
+-- what the table's column has to be by these lists
+unfoldable pub stores_by : ℕ → Stores
+stores_by code =
+    pick (stores_word code) Stores.RaPair (pick (stores_both code) Stores.RaAndRb (pick (stores_ra code) Stores.Ra Stores.Nothing))
 
 -- the designators of the registers that a word may write: Ra's pair, 02, L6: "the high byte's designator is the low one's with its lowest bit inverted";
 -- Ra and Rb; Ra; else none

@@ -2,7 +2,7 @@
 -- the codes are its own lists, and nothing here uses the engine's tables, plans or cycles.
 use Rattle.std.specs.Prelude.{ℕ, ◌+◌, ◌*◌, ◌/◌, ◌%◌, ◌≡◌, Bool, true, false, not, ◌&&◌, ◌||◌, List, [], ◌∷◌, eqb, get_or}
 use Rattle.alu.specs.declared.Flags.{Flags}
-use Rattle.attempt.specs.declared.Outcome.{Outcome}
+use Rattle.attempt.specs.Outcome.{Outcome}
 use Rattle.attempt_laws.specs.Fate.{within, odd, two_cycle, input_word, b_in, a_in, taken_word}
 use Rattle.choose.specs.Ranged.{bit, pick}
 use Rattle.code.specs.Word.{top_of}

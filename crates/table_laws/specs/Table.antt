@@ -1,19 +1,23 @@
 -- What the columns `stores` and `flags` of the table say of the registers and the flags that an attempt leaves.
 use Rattle.std.specs.Prelude.{ℕ, ◌+◌, ◌*◌, ◌/◌, ◌%◌, ◌≡◌, Bool, ◌&&◌, ◌||◌, List, [], ◌∷◌, eqb, length, get_or}
 use Rattle.alu.specs.declared.Flags.{Flags}
-use Rattle.attempt.specs.declared.Outcome.{Outcome}
+use Rattle.attempt.specs.Outcome.{Outcome}
 use Rattle.attempt_laws.specs.Fate.{within, odd, b_in, a_in}
-use Rattle.choose.specs.Ranged.{bit, ranged}
+use Rattle.choose.specs.Ranged.{bit}
 use Rattle.code.specs.CodeRows.{row_of}
 use Rattle.code.specs.Word.{top_of}
+use Rattle.code.specs.declared.Stores.{Stores}
 use Rattle.state.specs.File.{Leaves, leaves, slot_of, high_of}
 use Rattle.state.specs.declared.Core.{Core}
 
 -- ---- registers
 
 -- the designators that `stores` names, of a word's own two: none; a; a and the designator of its high byte; a and b
-unfoldable pub stored_by : ℕ → ℕ → ℕ → List ℕ
-stored_by stores b a = ranged stores ((1, []) ∷ (2, a ∷ []) ∷ (3, a ∷ high_of a ∷ []) ∷ []) (a ∷ b ∷ [])
+unfoldable pub stored_by : Stores → ℕ → ℕ → List ℕ
+stored_by Stores.Nothing b a = []
+stored_by Stores.Ra b a = a ∷ []
+stored_by Stores.RaPair b a = a ∷ high_of a ∷ []
+stored_by Stores.RaAndRb b a = a ∷ b ∷ []
 
 -- place i of the file is of none of the registers that these designators name, "by G before the attempt"
 abbrev pub Elsewhere : ℕ → List ℕ → ℕ → Type 0

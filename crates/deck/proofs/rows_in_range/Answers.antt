@@ -19,4 +19,4 @@ unfolding rows_part_in_range
 returns c =
     let part = c.args.part.now in
     let e : c.loop-i.i ≡ length part / 16 = omega arith in
-    rw (le-leb (length part / 16) 128 (omega arith), rows-every part (length part / 16)) (sym (rw e at c.loop-i.invariant.1))
+    rw (le-leb (length part / 16) 128 (omega arith), rows-every part (length part / 16)) (sym (rw e at c.loop-i.invariant))

@@ -3,12 +3,12 @@ use Rattle.std.proofs.Common.{◌≡◌, ◌∙◌, ◌+◌, ◌/◌, ◌%◌, a
 use Rattle.execute.proofs.Cycled.{flagged, operates}
 use Rattle.execute.proofs.operation.Goals as goal
 
-pub loop-k-preserved : goal.loop-k-preserved
-loop-k-preserved c = (search rules, rw (add-one c.loop-k.k, c.loop-k.invariant.1, ← c.designators-at.ensures, ← c.step-y.ensures))
+pub loop-preserved : goal.loop-preserved
+loop-preserved c = rw (add-one c.loop.counter, c.loop.invariant, ← c.designators.ensures, ← c.step-y.ensures)
 
 pub returns : goal.returns
 returns c =
     let x = c.args in
-    let e : c.loop-k.k ≡ 1 + x.code / 2 % 2 = omega arith in
+    let e : c.loop.counter ≡ 1 + x.code / 2 % 2 = omega arith in
     rw c.after.ensures
-    (ap (flagged x.g x.f x.code x.b x.a) (sym c.loop-k.invariant.1) ∙ rw e (operates x.g x.f x.code x.b x.a x.file.now _ (search rules)))
+    (ap (flagged x.g x.f x.code x.at.b x.at.a) (sym c.loop.invariant) ∙ rw e (operates x.g x.f x.code x.at.b x.at.a x.file.now _ (search rules)))

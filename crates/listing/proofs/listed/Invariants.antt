@@ -19,8 +19,5 @@ pub record Goes (words : List ℕ) (n : ℕ) (before text : List ℕ) (at i : �
   pub bytes : sets text at (rest words n i) ≡ sets before 0 (whole words n)
   pub ends : at + length (rest words n i) ≡ length (whole words n)
 
-abbrev pub invariant-loop-i : goal.invariant-loop-i
-invariant-loop-i l = Goes l.words l.n l.initial.text l.text l.at l.i
-
-abbrev pub decreases-loop-i : goal.decreases-loop-i
-decreases-loop-i l = l.n - l.i
+abbrev pub invariant-loop-address : goal.invariant-loop-address
+invariant-loop-address l = Goes l.words l.n l.initial.text l.text l.at l.address

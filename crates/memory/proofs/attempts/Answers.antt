@@ -1,28 +1,29 @@
-use Rattle.std.proofs.Common.{arith, sym, ◌∙◌}
-use Rattle.memory.proofs.Loop.{turned, less, ends, rows_left, rows-over}
+-- The attempt is refused, or it counts and the memory takes its request; and after the last one the run is whole.
+use Rattle.std.proofs.Common.{arith, refl, ◌∙◌}
+use Rattle.attempt.specs.Outcome.{unrefused, outcome_of}
+use Rattle.memory.proofs.Loop.{turned, stopped, ends}
 use Rattle.memory.proofs.attempts.Goals as goal
+use Rattle.memory.specs.Run.{seen_by}
+use Rattle.refusals.specs.Refusals.{number_of}
+use Rattle.refusals.proofs.Laws.{not-0}
+use Rattle.state.specs.File.{leaves}
 
-pub loop-k-preserved : goal.loop-k-preserved
-loop-k-preserved c = (
-  omega arith,
-  rw c.merged-o.ensures (rows_left _ _ _ c.load-table.ensures c.whole-m.ensures _ _ _ c.loop-k-test.true ∙ c.loop-k.invariant.1),
-)
+pub loop-i-preserved : goal.loop-i-preserved
+unfolding seen_by
+loop-i-preserved c =
+    rw (c.after-kept.ensures, c.put4.ensures, c.store.ensures)
+    (turned _ _ _ _ _ _ _ _ _ _ _ _ _ _ c.loop-i.invariant c.loop-i-test.true _ _
+    (rw (c.sample-external.ensures, c.whole-m.ensures) at c.inputs.ensures) (rw (c.load-table.ensures, c.whole-m.ensures) at c.scan-o.ensures)
+    (leaves c.attempted.new.file (unrefused c.in-Ok.done)) (rw c.sample-external.ensures at c.in-Ok.ensures)
+    _ c.transfer-transfer.ensures refl (omega arith))
 
-pub loop-table-smaller : goal.loop-table-smaller
-loop-table-smaller c =
-    let put =
-    c.unpacked.ensures
-    ∙ rows-over _ _ _ c.load-table.ensures c.whole-m.ensures _ _ _ _ c.loop-k-test.false (rw c.whole-m.ensures at c.key-key.ensures) c.loop-k.invariant.1 in
-    less _ _ _ _ _ _ _ _ _ _ _ c.loop-table.invariant _ _ _ _ _ (sym c.going.ensures ∙ c.loop-table-test.true) put
-    c.attempted-at.ensures.counted c.attempted-at.ensures.next c.attempted-at.auto.requests c.attempted-at.auto.memory
+pub returns-in-Err : goal.returns-in-Err
+unfolding seen_by
+returns-in-Err c =
+    stopped _ _ _ _ _ _ _ _ _ _ _ _ _ _ c.loop-i.invariant c.loop-i-test.true _ _
+    (rw (c.sample-external.ensures, c.whole-m.ensures) at c.inputs.ensures) (rw (c.load-table.ensures, c.whole-m.ensures) at c.scan-o.ensures)
+    (leaves c.attempted.new.file (outcome_of c.loop-i.core 0 0 (number_of c.in-Err.refusal))) (rw c.sample-external.ensures at c.in-Err.ensures)
+    (not-0 c.in-Err.refusal)
 
-pub loop-table-preserved : goal.loop-table-preserved
-loop-table-preserved c =
-    let put =
-    c.unpacked.ensures
-    ∙ rows-over _ _ _ c.load-table.ensures c.whole-m.ensures _ _ _ _ c.loop-k-test.false (rw c.whole-m.ensures at c.key-key.ensures) c.loop-k.invariant.1 in
-    turned _ _ _ _ _ _ _ _ _ _ _ c.loop-table.invariant _ _ _ _ _ (sym c.going.ensures ∙ c.loop-table-test.true) put
-    c.attempted-at.ensures.counted c.attempted-at.ensures.next c.attempted-at.auto.requests c.attempted-at.auto.memory
-
-pub returns-clause-whole : goal.returns-clause-whole
-returns-clause-whole c = ends _ _ _ _ _ _ _ _ _ _ _ c.loop-table.invariant (sym c.going.ensures ∙ c.loop-table-test.false)
+pub returns : goal.returns
+returns c = ends _ _ _ _ _ _ _ _ _ _ _ _ _ _ c.loop-i.invariant (omega (arith, c.loop-i-test.false, c.loop-i.auto.i-end))

@@ -1,10 +1,7 @@
-use Rattle.std.proofs.Common.{◌-◌, ◌≡◌, ◌≤◌}
+use Rattle.std.proofs.Common.{◌≡◌}
 use Rattle.rows.specs.Table.{filled_table}
 use Rattle.rows.proofs.load.Given as goal
 
 -- the table holds the first rows of the section, and empty rows after them
 abbrev pub invariant-loop-filled : goal.invariant-loop-filled
-invariant-loop-filled l = (l.filled ≤ l.n) × (l.table ≡ filled_table l.s l.filled)
-
-abbrev pub decreases-loop-filled : goal.decreases-loop-filled
-decreases-loop-filled l = l.n - l.filled
+invariant-loop-filled l = l.table ≡ filled_table l.s l.filled

@@ -1,11 +1,12 @@
 -- Its parts one after the other.
+use Rattle.std.proofs.Common.{arith}
 use Rattle.spelling.specs.Spelling.{spelled_of}
-use Rattle.spelling.proofs.Laws.{◌then◌}
+use Rattle.spelling.proofs.Laws.{◌then◌, alone}
 use Rattle.spelling.proofs.spelled.Goals as goal
 
 pub returns : goal.returns
 unfolding spelled_of
 returns c =
-    rw (← c.mnemonic_of.ensures, ← c.form_of.ensures, ← c.low_of-low.ensures.0)
-    (c.number-space.ensures then c.put-mnemonic.ensures then c.letters-first.ensures then
-    c.operands-after.ensures then c.marks-end.ensures then c.put.ensures)
+    let all = c.number.ensures then c.push.ensures then c.letters.ensures then c.operands.ensures then c.marks.ensures then c.push-2.ensures in
+    rw (← c.mnemonic_of.ensures, ← c.form_of.ensures, ← c.low_of.ensures.0)
+    (record { text = alone all c.new-line.ensures (omega arith); short = all.short })
