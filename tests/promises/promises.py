@@ -76,7 +76,7 @@ def in_their_files(page):
 
 def functions_say():
     for file in pathlib.Path("crates").glob("*/src/*.rt"):
-        for name, clauses in re.findall(r'^pub (?:extern "C" )?fn (\w+)(.*?)^\{', text(file), re.M | re.S):
+        for name, clauses in re.findall(r'^ *pub (?:extern "C" )?fn (\w+)(.*?)^ *\{', text(file), re.M | re.S):
             yield f"{file}: {name} has no ensures", "ensures" in clauses
             yield f"{file}: {name} has a requires", "requires" not in clauses
 

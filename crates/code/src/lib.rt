@@ -132,8 +132,9 @@ fn class_at(n: u32) -> Class
     }
 }
 
+// For who has the number of a row, whatever it is: one over the last counts as the last, here and below.
 #[tactic(auto, unfolding(crate::specs::Entries::waits_at, choose::specs::Ranged::ranged))]
-fn waits_at(n: u32) -> Waits
+pub fn waits_at(n: u32) -> Waits
     ensures { result ≡ waits_at n }
 {
     match n {
@@ -144,7 +145,7 @@ fn waits_at(n: u32) -> Waits
 }
 
 #[tactic(auto, unfolding(crate::specs::Entries::stores_at, choose::specs::Ranged::ranged))]
-fn stores_at(n: u32) -> Stores
+pub fn stores_at(n: u32) -> Stores
     ensures { result ≡ stores_at n }
 {
     match n {

@@ -1,4 +1,6 @@
 mod Every
 pub mod Laws
+pub mod Layouts
+pub mod One
 pub mod Order
 pub mod Slip

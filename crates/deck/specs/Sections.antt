@@ -3,6 +3,7 @@ use Rattle.std.specs.Prelude.{Bool, ◌&&◌, List, [], ℕ, ◌+◌, ◌*◌, e
 use Rattle.choose.specs.Ranged.{pick}
 use Rattle.numbers.specs.Numbers.{pair_at}
 use Rattle.state_bytes.specs.Bytes.{state_bytes}
+use Rattle.deck.specs.declared.Layout.{Layout}
 
 -- "each after its count": how many elements the section that starts at byte a says it has
 abbrev pub count_at : List ℕ → ℕ → ℕ
@@ -11,13 +12,6 @@ count_at s a = pair_at s a
 -- where that section ends, with elements of `size` bytes
 unfoldable pub section_end : List ℕ → ℕ → ℕ → ℕ
 section_end s a size = a + 2 + size * count_at s a
-
--- where the sections after the words start, each at its count, and where the last one ends
-pub record Layout : Type 0 where
-  pub rows : ℕ
-  pub state : ℕ
-  pub samples : ℕ
-  pub end : ℕ
 
 -- "in this order": words of 4 bytes, which start the deck, rows of 16, the state, samples of 4
 unfoldable pub layout_of : List ℕ → Layout

@@ -5,7 +5,8 @@ ghost use Rattle.std.specs.Prelude.{◌≡◌, ◌+◌, ◌*◌, ◌<◌, ◌≤
 ghost use Rattle.refusals.specs.Refusals.{refused_by};
 ghost use Rattle.state.specs.Marking.{marking_of};
 ghost use Rattle.state_bytes.specs.Bytes.{state_bytes};
-ghost use Rattle.deck.specs.Sections.{section_end, part_of, whole_of};
+ghost use Rattle.deck.specs.Sections.{section_end, layout_of, part_of, whole_of};
+ghost use Rattle.deck.specs.Layouts.{between};
 ghost use Rattle.deck.specs.Parts.{IsCut};
 ghost use Rattle.deck.specs.Elements.{sample_of};
 ghost use Rattle.deck.specs.Ranges.{words_in_range, rows_part_in_range, samples_in_range, deck_refusal_of};
@@ -62,6 +63,80 @@ pub fn sections(deck: &[u8]) -> Deck
     ensures { IsCut result deck.now }
 {
     cut(deck).unwrap_or_default()
+}
+
+// Where the sections after the words start, each at its count, and where the last one ends.
+#[derive(Clone, Copy)]
+pub struct Layout {
+    pub rows: usize,
+    pub state: usize,
+    pub samples: usize,
+    pub end: usize,
+}
+
+// Where the section that starts at byte a ends, which has elements of size bytes: the next one starts there.
+#[tactic(auto, unfolding(crate::specs::Sections::section_end))]
+fn section_end(deck: &[u8], a: usize, size: usize) -> usize
+    requires { (a ≤ 16777216) × (size ≤ state_bytes) }
+    ensures { (result ≡ section_end deck.now a size) × (result ≤ a + 2 + state_bytes * 65535) }
+{
+    let count = numbers::pair_at(deck, a) as usize;
+    a + 2 + size * count
+}
+
+// Bytes of any length have a layout, those of no whole deck too: it tells where a damaged deck's sections would be.
+#[tactic(auto, unfolding(crate::specs::Sections::layout_of))]
+pub fn layout_of(deck: &[u8]) -> Layout
+    ensures { result ≡ layout_of deck.now }
+{
+    let rows = section_end(deck, 0, 4);
+    let state = section_end(deck, rows, 16);
+    let samples = section_end(deck, state, STATE_BYTES);
+    let end = section_end(deck, samples, 4);
+    Layout {
+        rows: rows,
+        state: state,
+        samples: samples,
+        end: end,
+    }
+}
+
+// The section whose count is at byte a and which ends before byte end; the empty part where the deck has none such.
+#[tactic(auto, unfolding(crate::specs::Layouts::between))]
+fn between(deck: &[u8], a: usize, end: usize) -> &[u8]
+    ensures { result.now ≡ between deck.now a end }
+{
+    if (end <= deck.len()) & (a <= end) {
+        let from = a + 2;
+        if from <= end {
+            return &deck[from..end];
+        }
+    }
+    &deck[0..0]
+}
+
+pub fn words(deck: &[u8], l: Layout) -> &[u8]
+    ensures { result.now ≡ between deck.now 0 l.rows }
+{
+    between(deck, 0, l.rows)
+}
+
+pub fn rows(deck: &[u8], l: Layout) -> &[u8]
+    ensures { result.now ≡ between deck.now l.rows l.state }
+{
+    between(deck, l.rows, l.state)
+}
+
+pub fn state(deck: &[u8], l: Layout) -> &[u8]
+    ensures { result.now ≡ between deck.now l.state l.samples }
+{
+    between(deck, l.state, l.samples)
+}
+
+pub fn samples(deck: &[u8], l: Layout) -> &[u8]
+    ensures { result.now ≡ between deck.now l.samples l.end }
+{
+    between(deck, l.samples, l.end)
 }
 
 // The sample that four bytes hold. An array of them would be taken apart into these names again.

@@ -5,7 +5,7 @@ use mathlib.Core.Bool.{Bool, true, false}
 use mathlib.Core.List.{List, ◌++◌}
 use native.Mathlib.Nat.{zero-add}
 use native.Mathlib.Omega.{arith}
-use borrow.Author.Tests.{lt-ltb, le-ltb}
+use borrow.Author.Tests.{ltb-true, lt-ltb, le-ltb}
 use lib.Dec.{ltb}
 use lib.ListN.{length, drop}
 use lib.Seq.{sets-eq}
@@ -36,6 +36,9 @@ nowhere n p e = go (ltb p n) e
     go : (t : Bool) → pick t (Some p) None ≡ None → t ≡ false
     go true e = cc
     go false e = refl
+
+pub among : (s : List ℕ) (n : ℕ) → n ≡ word_count s → (p q : ℕ) → Some q ≡ place_below n p → q < word_count s
+among s n counted p q e = rw counted at (ltb-true q n (found n p q e).1)
 
 -- the first n words, and their lines
 module _ (s out : List ℕ) (n : ℕ) (counted : n ≡ word_count s) where

@@ -10,10 +10,10 @@ use lib.Dec.{eqb}
 use borrow.Author.Tests.{lt-ltb, le-ltb}
 use Rattle.std.specs.Prelude.{Some, None}
 use mathlib.Core.Logic.{◌⊎◌, inl, inr}
-use lib.ListN.{length, take, drop, set, replicate, length-replicate, drop_of_length-le}
+use lib.ListN.{length, get_or, take, drop, set, replicate, length-replicate, drop_of_length-le}
 use Rattle.std.proofs.lemmas.Bool.{cases_lt}
 use Rattle.std.proofs.lemmas.List.{length-take-le, take-append-drop, take_all}
-use lib.Seq.{sets, sets-eq, length-sets, set_out, paste}
+use lib.Seq.{sets, sets-eq, drop-cons, length-sets, set_out, paste}
 use Rattle.choose.specs.Below.{firsts}
 use Rattle.code.specs.Word.{apart_of, number_of}
 use Rattle.numbers.specs.Numbers.{word_at}
@@ -47,6 +47,17 @@ room_for l bs at n h e =
     rest : (n < length bs) ⊎ (length bs ≤ n) → sets (sets l at (take n bs)) (at + n) (drop n bs) ≡ sets l at (take n bs)
     rest (inl p) = past_end (drop n bs) _ (at + n) (omega (arith, length-sets l at (take n bs)))
     rest (inr p) = rw (drop_of_length-le bs p)
+
+-- the bytes from i on: the first of them, and the others
+pub sets-step : (l : List ℕ) (at i : ℕ) (bs : List ℕ) → i < length bs
+    → sets l (at + i) (drop i bs) ≡ sets (set l (at + i) (get_or bs i 0)) (at + (i + 1)) (drop (i + 1) bs)
+sets-step l at i bs h =
+    let e : at + (i + 1) ≡ suc (at + i) = omega arith in
+    rw (e, add-one, drop-cons bs i 0)
+
+-- past the end neither they nor the others are put anywhere
+pub sets-past : (l : List ℕ) (at i : ℕ) (bs : List ℕ) → length l ≤ at + i → sets l (at + i) (drop i bs) ≡ sets l (at + (i + 1)) (drop (i + 1) bs)
+sets-past l at i bs h = past_end (drop i bs) l (at + i) h ∙ sym (past_end (drop (i + 1) bs) l (at + (i + 1)) (omega arith))
 
 -- a word, and the words after it
 pub word-step : (l : List ℕ) (i w : ℕ) (ws : List ℕ)

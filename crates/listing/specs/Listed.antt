@@ -1,6 +1,6 @@
 -- The listing of words that are handed in as bytes: 2, "over 2,048 words, a word of 2^22 or more, or a length that is no multiple of 4; then 6 for the
 -- first unlisted word (CAD is listed); then 27".
-use Rattle.std.specs.Prelude.{ℕ, suc, ◌/◌, ◌%◌, Bool, ◌&&◌, List, [], ◌∷◌, ◌++◌, Option, Some, None, Result, Ok, Err, map, eqb, ltb, leb, length}
+use Rattle.std.specs.Prelude.{ℕ, suc, ◌/◌, ◌%◌, ◌<◌, ⊤, Bool, ◌&&◌, List, [], ◌∷◌, ◌++◌, Option, Some, None, Result, Ok, Err, map, eqb, ltb, leb, length}
 use Rattle.choose.specs.Below.{firsts}
 use Rattle.choose.specs.Ranged.{pick}
 use Rattle.code.specs.Word.{Apart, apart_of, number_of}
@@ -68,3 +68,9 @@ words_report (WordsRefused.Room needed) = report_of 27 0 needed
 abbrev pub listed_report : Result ℕ WordsRefused → Report
 listed_report (Ok n) = report_of 0 0 n
 listed_report (Err refused) = words_report refused
+
+-- "the first whole word .. among the first 2,048": a refusal tells no other word than one that is looked at
+abbrev pub IsAmong : List ℕ → WordsRefused → Type 0
+IsAmong s (WordsRefused.Word address why) = address < word_count s
+IsAmong s WordsRefused.Length = ⊤
+IsAmong s (WordsRefused.Room needed) = ⊤

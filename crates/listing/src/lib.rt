@@ -1,7 +1,7 @@
 // The assembler and the lister, for hosts.
 #![tactic(auto)]
 
-ghost use Rattle.std.specs.Prelude.{◌≡◌, ◌==◌, ◌*◌, ◌-◌, ◌≤◌, [], ◌∷◌, length, replicate, Err};
+ghost use Rattle.std.specs.Prelude.{◌≡◌, ◌==◌, ◌*◌, ◌-◌, ◌≤◌, [], ◌∷◌, length, replicate, Err, IfErr};
 ghost use Rattle.std.proofs.lemmas.List.Edits.{sets};
 ghost use Rattle.pieces.specs.Parts.{lines_of};
 ghost use Rattle.choose.specs.Below.{firsts};
@@ -12,7 +12,7 @@ ghost use Rattle.listing.specs.Laid.{Laid};
 ghost use Rattle.listing.specs.Assembled.{report_of, bytes_of, words_from, refusal_from};
 ghost use Rattle.listing.specs.Assembled.{assembled_of, assembled_into, text_report, assembled_report};
 ghost use Rattle.listing.specs.Listed.{word_count, place_below, first_with, word_line, listing_from};
-ghost use Rattle.listing.specs.Listed.{listed_of, listed_into, words_report, listed_report};
+ghost use Rattle.listing.specs.Listed.{listed_of, listed_into, words_report, listed_report, IsAmong};
 
 use code::Unread;
 use refusals::Refusal;
@@ -119,13 +119,16 @@ fn told(answer: u32, at: u32, length: u32) -> Report
     Report { answer, at, length }
 }
 
-// Bytes into an output, as far as there is room.
+// Bytes into an output, as far as there is room. One by one, since a copy of part of a slice has a host's archive ask for memcpy.
 fn put(out: &mut [u8], at: usize, bytes: &[u8])
     ensures { out.new ≡ sets out.old at bytes.now }
 {
     if at < out.len() {
-        let n = bytes.len().min(out.len() - at);
-        out[at..at + n].copy_from_slice(&bytes[..n]);
+        for i in 0..bytes.len() {
+            if at + i < out.len() {
+                out[at + i] = bytes[i];
+            }
+        }
     }
 }
 
@@ -241,7 +244,8 @@ fn listed(words: &[u8], n: u16, text: &mut [u8]) -> u32
 
 // Nothing is written before all words are known to be listed and to have their room. The length that is written.
 pub fn list_words(words: &[u8], text: &mut [u8]) -> Result<u32, WordsRefused>
-    ensures { (listed_report result ≡ listed_of words.now (length text.old)) × (text.new ≡ listed_into words.now text.old) }
+    ensures told { (listed_report result ≡ listed_of words.now (length text.old)) × (text.new ≡ listed_into words.now text.old) }
+    ensures among { IfErr result (IsAmong words.now) }
 {
     let n = count(words);
     if let Some(address) = first_with(words, n, Unread::OutOfRange) {

@@ -1,6 +1,6 @@
 -- Laws of the code's loop over the tables that are lent: what is left to run gives the whole run, one attempt after the other; and by THE table and rows in
 -- range it is the run of 01 and 02. Assumes nothing.
-use Prim.Native.Nat.{ℕ, ◌+◌, ◌-◌, ◌*◌, ◌<◌, ◌≤◌}
+use Prim.Native.Nat.{ℕ, ◌+◌, ◌-◌, ◌*◌, ◌<◌, ◌≤◌, zero-le}
 use mathlib.Core.Path.{◌≡◌, refl, ap, sym, ◌∙◌}
 use mathlib.Core.Bool.{Bool, false}
 use mathlib.Core.List.{List, [], ◌∷◌}
@@ -11,7 +11,7 @@ use borrow.Author.Tests.{ne_eqb}
 use Rattle.choose.specs.Ranged.{pick}
 use Rattle.attempt.specs.Lent.{attempt_by, inputs_by}
 use Rattle.attempt.specs.Outcome.{Outcome}
-use Rattle.bus_memory.specs.Memory.{seen_of, stored_in, kept_after}
+use Rattle.bus_memory.specs.Memory.{seen_of, stored_in, kept_after, nothing_kept}
 use Rattle.bus_memory.specs.declared.Kept.{Kept}
 use Rattle.control.specs.Next.{inputs_of}
 use Rattle.deck.specs.Elements.{sample_at}
@@ -122,3 +122,13 @@ module _ (codes ws part samples : List ℕ) (n delay : ℕ) (start : Together) w
           sym (over (eqb e.back.refusal 0) (ne_eqb e.back.refusal 0 h) _ _)
           ∙ ap (left_by attempt ws delay rest) (next-stops codes ws o delay sample t e made h)
           ∙ sym begun
+
+-- before the first attempt all is left to run, and nothing is kept
+pub begins : (codes ws part samples : List ℕ) (n delay : ℕ) (file : List ℕ) (first : Core) (requests bytes : List ℕ)
+    → Good codes ws part samples n delay (together (world file first 0 0 0 requests) bytes nothing_kept) 0 first 0 nothing_kept file requests bytes
+begins codes ws part samples n delay file first requests bytes = record {
+  counted = zero-le;
+  same =
+      ap (λ (k : ℕ). run_by (attempts_by codes ws (lent_rows part)) ws delay (samples_from samples 0 k)
+      (together (world file first 0 0 0 requests) bytes nothing_kept)) (omega arith);
+}

@@ -88,6 +88,17 @@ module _ (codes ws : List ℕ) (o : Outputs) (delay : ℕ) (s : Sample) (t : Tog
   unfolding next_by next_of
   next-is a b p q = rw (p, q)
 
+  -- so the world after the 32nd wait is the one that is left
+  pub next-sticks : (e : Leaves Outcome) → e ≡ attempt → e.back.refusal ≡ 0 → (seen_by ws t s).dal < 0x1_0000 → stuck e ≡ true
+      → together (world e.file w.core 17 w.attempts w.microcycles w.buffer) t.bytes t.kept ≡ next_by codes ws o delay s t
+  unfolding next_by next_of stopped_at stopped_of stuck_of transfer_waits
+  next-sticks e made passed small sticky =
+      let waits = (and-eq-true_iff _ _).0 (stuck-waits (transfer_waits (transfers (code_at ws w.core)) e.back.request) _ _ _ sticky) in
+      let asked : attempt.back.request ≡ e.back.request = ap (λ (x : Leaves Outcome). x.back.request) (sym made) in
+      let kept : e.file ≡ w.file = ap (λ (x : Leaves Outcome). x.file) made
+      ∙ wait-keeps w.file w.core (seen_by ws t s) small codes ws o waits.1 (ap kind_in asked ∙ eqb-true _ _ waits.0) in
+      rw (kept, ← made, eq-eqb e.back.refusal 0 passed, sticky)
+
   module _ (e : Leaves Outcome) (made : e ≡ with_17 ws (length t.bytes) t.kept w.core w.file attempt) where
     made-is : (a b : Bool) → eqb attempt.back.refusal 0 ≡ a → stuck attempt ≡ b → e ≡ chosen a b
     unfolding with_17

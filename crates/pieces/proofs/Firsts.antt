@@ -1,5 +1,5 @@
 -- The first line of a text and the first piece of a line, and what stands after them. Assumes nothing.
-use Prim.Native.Nat.{ℕ, suc, ◌+◌, ◌-◌, ◌<◌, ◌≤◌}
+use Prim.Native.Nat.{ℕ, ◌+◌, ◌-◌, ◌<◌, ◌≤◌}
 use mathlib.Core.Path.{◌≡◌, refl, sym, ap, ◌∙◌}
 use mathlib.Core.Bool.{Bool, false, not}
 use mathlib.Core.List.{List, [], ◌∷◌}
@@ -7,33 +7,16 @@ use native.Mathlib.Numerals.{add-one}
 use native.Mathlib.Omega.{arith}
 use lib.Dec.{eqb, ltb}
 use lib.ListN.{length, take, drop, length-drop, drop_of_length-le}
-use lib.Seq.{take-length, drop-length}
+use lib.Seq.{take-length, drop-length, drop-drop}
 use borrow.Author.Tests.{ltb-true, ltb-false}
 use Rattle.std.specs.Prelude.{None, Some, ◌==◌}
 use Rattle.std.specs.List.{position, position_or_len}
 use Rattle.std.specs.Option.{unwrap_or}
 use Rattle.std.proofs.lemmas.List.Recursion.{is_position_or_len}
 use Rattle.std.proofs.lemmas.List.Sums.{prefix_len-le-length}
-use Rattle.choose.specs.Ranged.{pick}
 use Rattle.pieces.specs.Parts.{parts_of, lines_of, pieces_of}
-use Rattle.pieces.proofs.Laws.{cases}
-
--- how many bytes stand before the first mark
-unfoldable length_to : ℕ → List ℕ → ℕ
-length_to mark [] = 0
-length_to mark (c ∷ t) = pick (eqb c mark) 0 (suc (length_to mark t))
-
--- how many spaces stand in front
-unfoldable spaces_of : List ℕ → ℕ
-spaces_of [] = 0
-spaces_of (c ∷ t) = pick (eqb c 32) (suc (spaces_of t)) 0
-
--- the first part ends at the first mark, and the other parts stand after that
-parts_first : (mark c : ℕ) (t : List ℕ)
-    → parts_of mark (c ∷ t) ≡ take (length_to mark (c ∷ t)) (c ∷ t) ∷ parts_of mark (drop (suc (length_to mark (c ∷ t))) (c ∷ t))
-unfolding parts_of length_to
-parts_first mark c [] = cases (eqb c mark) (λ e. rw e) (λ e. rw e)
-parts_first mark c (d ∷ u) = cases (eqb c mark) (λ e. rw e) (λ e. rw (e, parts_first mark d u))
+use Rattle.pieces.specs.Counted.{length_to, spaces_of}
+use Rattle.pieces.proofs.Laws.{cases, parts_first, spaces-skipped, no-spaces, space-skipped}
 
 -- a place is the first, or there is none before the end
 module _ (p : ℕ → Bool) (l : List ℕ) where
@@ -55,11 +38,11 @@ module _ (p : ℕ → Bool) (l : List ℕ) where
       (λ t. rw t (omega (arith, ltb-false _ _ t, prefix_len-le-length (λ x. not (p x)) l)))
 
 -- the words of these laws are std's
-to-mark : (mark : ℕ) (l : List ℕ) → position_or_len (λ c. c == mark) l ≡ length_to mark l
+pub to-mark : (mark : ℕ) (l : List ℕ) → position_or_len (λ c. c == mark) l ≡ length_to mark l
 unfolding length_to
 to-mark mark l = sym (is_position_or_len (length_to mark) (λ c. c == mark) refl (λ c t. cases (eqb c mark) (λ e. rw e) (λ e. rw e (omega arith))) l)
 
-to-piece : (l : List ℕ) → position_or_len (λ c. not (c == 32)) l ≡ spaces_of l
+pub to-piece : (l : List ℕ) → position_or_len (λ c. not (c == 32)) l ≡ spaces_of l
 unfolding spaces_of
 to-piece l =
     sym (is_position_or_len spaces_of (λ c. not (c == 32)) refl (λ c t. cases (eqb c 32) (λ e. rw e (omega arith)) (λ e. rw e)) l)
@@ -87,23 +70,6 @@ no_lines (c ∷ t) h = absurd (omega arith)
 pub rest : (t : List ℕ) (i : ℕ) → take (length t - i) (drop i t) ≡ drop i t
 rest t i = let e : length t - i ≡ length (drop i t) = omega (arith, length-drop i t) in rw e (take-length (drop i t))
 
--- spaces in front count nothing
-spaces-skipped : (l : List ℕ) → pieces_of (drop (spaces_of l) l) ≡ pieces_of l
-unfolding pieces_of parts_of spaces_of
-spaces-skipped [] = refl
-spaces-skipped (c ∷ t) = cases (eqb c 32) (λ e. rw e (spaces-skipped t)) (λ e. rw (e, e))
-
-no-spaces : (l : List ℕ) → spaces_of (drop (spaces_of l) l) ≡ 0
-unfolding spaces_of
-no-spaces [] = refl
-no-spaces (c ∷ t) = cases (eqb c 32) (λ e. rw e (no-spaces t)) (λ e. rw (e, e))
-
--- nor does the space at a piece's end
-space-skipped : (l : List ℕ) → pieces_of (drop (suc (length_to 32 l)) l) ≡ pieces_of (drop (length_to 32 l) l)
-unfolding pieces_of parts_of length_to
-space-skipped [] = refl
-space-skipped (c ∷ t) = cases (eqb c 32) (λ e. rw (e, e)) (λ e. rw e (space-skipped t))
-
 -- a piece ends at the first space, or at the line's end
 piece-there : (c : ℕ) (t : List ℕ) → eqb c 32 ≡ false
     → pieces_of (c ∷ t) ≡ take (length_to 32 (c ∷ t)) (c ∷ t) ∷ pieces_of (drop (length_to 32 (c ∷ t)) (c ∷ t))
@@ -125,6 +91,13 @@ module _ (l : List ℕ) where
       let skipped : pieces_of (drop i l) ≡ pieces_of l = rw s (spaces-skipped l) in
       let some : 0 < length (drop i l) = omega (arith, length-drop i l) in
       rw (to-mark 32 (drop i l)) (sym skipped ∙ piece-here (drop i l) some none)
+
+  -- and what comes after it stands behind the spaces and the piece
+  pub after-piece : (i k n : ℕ) → position (λ c. not (c == 32)) l ≡ Some i → n ≡ k → drop k (drop i l) ≡ drop (spaces_of l + n) l
+  after-piece i k n h e =
+      let (same, inside) = at_place (λ c. not (c == 32)) l i h in
+      let s : spaces_of l + n ≡ i + k = omega (arith, same ∙ to-piece l) in
+      rw s (drop-drop k i l)
 
   pub no_pieces : position (λ c. not (c == 32)) l ≡ None → pieces_of l ≡ []
   unfolding pieces_of parts_of

@@ -1,9 +1,10 @@
 // A text in parts, and a part read as a name or as a number.
 #![tactic(auto)]
 
-ghost use Rattle.std.specs.Prelude.{◌≡◌, ◌==◌, not, ◌<◌, ◌≤◌, [], ◌∷◌, length, IfSome, MatchOption, SomeIff};
+ghost use Rattle.std.specs.Prelude.{◌≡◌, ◌==◌, not, ◌+◌, ◌<◌, ◌≤◌, [], ◌∷◌, length, drop, IfSome, MatchOption, SomeIff};
 ghost use Rattle.std.specs.List.{position, position_or_len};
 ghost use Rattle.pieces.specs.Parts.{lines_of, pieces_of};
+ghost use Rattle.pieces.specs.Counted.{length_to, spaces_of, PieceAt};
 ghost use Rattle.pieces.specs.Read.{letter_of, name_of, digit_of, value_of};
 
 // Where the first mark stands.
@@ -21,9 +22,20 @@ fn length_to(text: &[u8], mark: u8) -> usize
     place_of(text, mark).unwrap_or(text.len())
 }
 
+// The first mark at `at` or after it, or the end.
+pub fn part_end(text: &[u8], at: usize, mark: u8) -> usize
+    ensures { result ≡ at + length_to mark (drop at text.now) }
+{
+    if text.len() <= at {
+        return at;
+    }
+    at + length_to(&text[at..], mark)
+}
+
 // The first line of a text, and the text after its newline.
 pub fn first_line(text: &[u8]) -> Option<(&[u8], &[u8])>
     ensures first { MatchOption result (lines_of text.now ≡ []) (λ p. lines_of text.now ≡ p.0.now ∷ lines_of p.1.now) }
+    ensures after { IfSome result (λ p. p.1.now ≡ drop (length p.0.now + 1) text.now) }
     ensures shorter { IfSome result (λ p. length p.1.now < length text.now) }
 {
     if text.is_empty() {
@@ -45,10 +57,31 @@ fn start(line: &[u8]) -> Option<usize>
 // The first piece of a line, and the line after it.
 pub fn first_piece(line: &[u8]) -> Option<(&[u8], &[u8])>
     ensures first { MatchOption result (pieces_of line.now ≡ []) (λ p. pieces_of line.now ≡ p.0.now ∷ pieces_of p.1.now) }
+    ensures after { IfSome result (λ p. p.1.now ≡ drop (spaces_of line.now + length p.0.now) line.now) }
     ensures shorter { IfSome result (λ p. length p.1.now < length line.now) }
 {
     let filled = &line[start(line)?..];
     Some(filled.split_at(length_to(filled, b' ')))
+}
+
+// A piece is line[from..to]; where there is none both are the line's end.
+#[derive(Clone, Copy)]
+pub struct Piece {
+    pub from: usize,
+    pub to: usize,
+}
+
+// The first piece at `at` or after it.
+pub fn piece_at(line: &[u8], at: usize) -> Piece
+    ensures { PieceAt line.now at result.from result.to }
+{
+    let end = line.len();
+    if end <= at {
+        return Piece { from: end, to: end };
+    }
+    let from = at + start(&line[at..]).unwrap_or(end - at);
+    let to = part_end(line, from, b' ');
+    Piece { from, to }
 }
 
 // Letter i of a name, a space where the piece has ended.

@@ -2,12 +2,14 @@
 use Prim.Native.Nat.{ℕ, suc, ◌+◌, ◌-◌, ◌/◌, ◌%◌, ◌<◌, ◌≤◌}
 use mathlib.Core.Path.{◌≡◌, refl, sym, ap, ◌∙◌}
 use mathlib.Core.Bool.{Bool, true, false, false≢true, and-eq-true_iff}
-use mathlib.Core.List.{List, ◌∷◌}
+use mathlib.Core.List.{List, [], ◌∷◌}
 use native.Mathlib.Numerals.{add-one}
 use native.Mathlib.Omega.{arith}
 use borrow.Author.Tests.{eq-eqb, ne_eqb, eqb-true, leb-true}
 use lib.Dec.{eqb, leb, ltb}
 use lib.ListN.{length}
+use Rattle.std.specs.Prelude.{Result, Ok, Err, IfErr}
+use Rattle.choose.proofs.Choice.{pick_all}
 use Rattle.choose.specs.Below.{firsts}
 use Rattle.choose.specs.Ranged.{pick}
 use Rattle.listing.specs.Assembled.{report_of as told}
@@ -15,7 +17,7 @@ use Rattle.listing.specs.declared.Report.{Report}
 use Rattle.listing.specs.Listed.{word_count, words_in, first_with, is_whole, listed_of}
 use Rattle.numbers.specs.Numbers.{word_at}
 use Rattle.profile.specs.Profile.{report_of, rule_of, broken_from, profile_of}
-use Rattle.profile.specs.Told.{rule_number, unfit_report}
+use Rattle.profile.specs.Told.{rule_number, unfit_report, profile_report, RangeIsAmong}
 use Rattle.profile.specs.declared.Report as P
 use Rattle.profile.specs.declared.Rule.{Rule}
 use Rattle.profile.specs.declared.Unfit.{Unfit}
@@ -86,3 +88,16 @@ module _ (s : List ℕ) where
   pub held : Ranged (report_of 0 0 0) → (r : P.Report) → r ≡ broken_from 0 (firsts (word_at s) 0 (length s / 4)) → r ≡ profile_of s
   unfolding profile_of
   held e r h = rw (fine e) h
+
+-- ---- the words one after the other give 0 or 25
+broken-not-2 : (i : ℕ) (ws : List ℕ) → 2 ≡ (broken_from i ws).answer → ⊥
+unfolding broken_from
+broken-not-2 i [] = λ e. omega arith
+broken-not-2 i (w ∷ ws) = pick_all (λ (r : P.Report). 2 ≡ r.answer → ⊥) (eqb (rule_of i w) 0) _ _ (broken-not-2 (suc i) ws) (λ e. omega arith)
+
+-- so no refusal of the lister is told for them
+module _ {A : Type 0} (s : List ℕ) where
+  pub broken-among : (ws : List ℕ) (x : Result A Unfit) → profile_report x ≡ broken_from 0 ws → IfErr x (RangeIsAmong s)
+  broken-among ws (Ok x) e = tt
+  broken-among ws (Err (Unfit.Broken address rule)) e = tt
+  broken-among ws (Err (Unfit.Range refused)) e = absurd (broken-not-2 0 ws (ap (λ (r : P.Report). r.answer) e))

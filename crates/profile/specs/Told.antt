@@ -1,6 +1,6 @@
 -- What the check of the profile answers, as it is told: a rule's number, and the report.
-use Rattle.std.specs.Prelude.{ℕ, Option, Some, None, Result, Ok, Err}
-use Rattle.listing.specs.Listed.{words_report}
+use Rattle.std.specs.Prelude.{ℕ, ⊤, ◌≡◌, List, Option, Some, None, Result, Ok, Err}
+use Rattle.listing.specs.Listed.{words_report, IsAmong}
 use Rattle.profile.specs.Profile.{report_of}
 use Rattle.profile.specs.declared.Report.{Report}
 use Rattle.profile.specs.declared.Rule.{Rule}
@@ -25,3 +25,8 @@ module _ {A : Type 0} where
   abbrev pub profile_report : Result A Unfit → Report
   profile_report (Ok x) = report_of 0 0 0
   profile_report (Err unfit) = unfit_report unfit
+
+-- "2 as the lister gives it": it is the lister's 2, and a word that is told is one that the lister looks at
+abbrev pub RangeIsAmong : List ℕ → Unfit → Type 0
+RangeIsAmong s (Unfit.Range refused) = ((words_report refused).answer ≡ 2) × IsAmong s refused
+RangeIsAmong s (Unfit.Broken address rule) = ⊤

@@ -1,13 +1,13 @@
 // The service profile of plants' microcode: four rules, over the bytes of words.
 #![tactic(auto)]
 
-ghost use Rattle.std.specs.Prelude.{◌≡◌, ◌==◌};
+ghost use Rattle.std.specs.Prelude.{◌≡◌, ◌==◌, IfErr};
 ghost use Rattle.choose.specs.Below.{firsts};
 ghost use Rattle.choose.specs.Ranged.{pick};
 ghost use Rattle.numbers.specs.Numbers.{word_at};
 ghost use Rattle.listing.specs.Listed.{listed_of};
 ghost use Rattle.profile.specs.Profile.{report_of, within, no_run, rule_of, broken_from, profile_of};
-ghost use Rattle.profile.specs.Told.{rule_number, number_of_rule, unfit_report, profile_report};
+ghost use Rattle.profile.specs.Told.{rule_number, number_of_rule, unfit_report, profile_report, RangeIsAmong};
 
 use listing::WordsRefused;
 use std::fmt;
@@ -149,8 +149,9 @@ fn first_broken(words: &[u8], n: u16) -> Result<(), Unfit>
 
 // 2 is the lister's own.
 fn in_range(words: &[u8]) -> Result<(), Unfit>
-    ensures { profile_report result ≡
+    ensures told { profile_report result ≡
         pick ((listed_of words.now 1).answer == 2) (report_of 2 (listed_of words.now 1).at 0) (report_of 0 0 0) }
+    ensures among { IfErr result (RangeIsAmong words.now) }
 {
     let mut scratch = [0u8; 1];
     match listing::list_words(words, &mut scratch) {
@@ -165,7 +166,8 @@ fn in_range(words: &[u8]) -> Result<(), Unfit>
 }
 
 pub fn profile(words: &[u8]) -> Result<(), Unfit>
-    ensures { profile_report result ≡ profile_of words.now }
+    ensures told { profile_report result ≡ profile_of words.now }
+    ensures among { IfErr result (RangeIsAmong words.now) }
 {
     in_range(words)?;
     first_broken(words, (words.len() / 4) as u16)

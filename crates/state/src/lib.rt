@@ -4,7 +4,7 @@
 ghost use Rattle.std.specs.Prelude.{◌≡◌, ◌<◌, ◌≤◌};
 ghost use Rattle.state.specs.File.{slot_of, high_of, register_of, written_of};
 ghost use Rattle.state.specs.FlagByte.{nibble_of, flag_byte_of, flags_of};
-ghost use Rattle.state.specs.Marking.{marking_in};
+ghost use Rattle.state.specs.Marking.{is_marking, marking_of, marking_in};
 
 use alu::Flags;
 use choose::bit_of;
@@ -70,6 +70,20 @@ impl TryFrom<u32> for Marking {
             _ => Err(Refusal::NoMarking),
         }
     }
+}
+
+pub fn is_marking(number: u32) -> bool
+    ensures { result ≡ is_marking number }
+{
+    Marking::try_from(number).is_ok()
+}
+
+// The marking of a number that is one, for who knows that it is: a number that is none counts as the base's, so this cannot fail.
+#[tactic(auto, unfolding(crate::specs::Marking::marking_of))]
+pub fn marking_of(number: u32) -> Marking
+    ensures { result ≡ marking_of number }
+{
+    Marking::try_from(number).unwrap_or(Marking::CP1661B)
 }
 
 // The lines as one attempt samples them; interrupts are I0-I3.

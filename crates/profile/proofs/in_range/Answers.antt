@@ -1,12 +1,16 @@
 -- The lister's answer is its 2 or another.
 use mathlib.Core.Path.{sym, ◌∙◌}
+use borrow.Author.Tests.{eqb-true}
 use Rattle.profile.proofs.in_range.Goals as goal
 
-pub returns-in-Ok : goal.returns-in-Ok
-returns-in-Ok c = rw (← c.in-Ok.ensures.0)
+pub returns-in-Ok-clause-told : goal.returns-in-Ok-clause-told
+returns-in-Ok-clause-told c = rw (← c.in-Ok.ensures.told.0)
 
-pub returns-then-is_range : goal.returns-then-is_range
-returns-then-is_range c = rw (← c.in-Err.ensures.0, sym c.is_range.ensures ∙ c.if-is_range.true)
+pub returns-then-is_range-clause-told : goal.returns-then-is_range-clause-told
+returns-then-is_range-clause-told c = rw (← c.in-Err.ensures.told.0, sym c.is_range.ensures ∙ c.if-is_range.true)
 
-pub returns-else-is_range : goal.returns-else-is_range
-returns-else-is_range c = rw (← c.in-Err.ensures.0, sym c.is_range.ensures ∙ c.if-is_range.false)
+pub returns-then-is_range-clause-among : goal.returns-then-is_range-clause-among
+returns-then-is_range-clause-among c = (eqb-true _ 2 (sym c.is_range.ensures ∙ c.if-is_range.true), c.in-Err.ensures.among)
+
+pub returns-else-is_range-clause-told : goal.returns-else-is_range-clause-told
+returns-else-is_range-clause-told c = rw (← c.in-Err.ensures.told.0, sym c.is_range.ensures ∙ c.if-is_range.false)
